@@ -1,0 +1,5 @@
+pub mod Cuts
+pub mod Halves
+pub mod Gathers
+pub mod Same
+pub mod Contents

@@ -1,0 +1,8 @@
+-- The number of each refusal.
+use Prim.Native.Nat.{ℕ}
+use Rattle.numbers.specs.declared.refusal.Refusal.{Refusal}
+use Rattle.numbers.specs.declared.refusal.Refusal.the-variants.{TooShort, OutOfRange}
+
+abbrev pub refusalNumber : Refusal → ℕ
+refusalNumber TooShort = 9
+refusalNumber OutOfRange = 10
