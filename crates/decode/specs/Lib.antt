@@ -1,0 +1,5 @@
+pub mod Faults
+pub mod Values
+pub mod Parameters
+pub mod Optional
+pub mod Messages
