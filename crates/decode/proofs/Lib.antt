@@ -1,2 +1,4 @@
 pub mod Steps
 pub mod Walks
+pub mod Parts
+pub mod Fields

@@ -3,3 +3,4 @@ pub mod Values
 pub mod Parameters
 pub mod Optional
 pub mod Messages
+pub mod Reading
