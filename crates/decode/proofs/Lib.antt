@@ -5,3 +5,8 @@ pub mod Fields
 pub mod CompleteValues
 pub mod CompleteOptional
 pub mod Complete
+pub mod ValuesRead
+pub mod Passed
+pub mod Gathers
+pub mod Behind
+pub mod Sound
