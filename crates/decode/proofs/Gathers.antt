@@ -66,22 +66,22 @@ placed-octet g h k n octet place c put e =
     let is : k ≡ h = cc (p .1) in
     subst (Placed g n c) is (subst (λ (l : List ℕ). Placed g n l k) (sym (lone-octet c octet (p .0))) put)
 
--- the value of a known name is its content, placed under it
-value-placed :
-    (g h : Gathered Number) (c : List ℕ) (place n : ℕ) → known n ≡ true → valueOf g (record { name = n; content = c; place = place }) ≡ Ok h → Placed g n c h
+-- the value of a name is its content, placed under it
+abbrev ValuePlaced : Gathered Number → Gathered Number → List ℕ → ℕ → ℕ → Type 0
+ValuePlaced g h c place n = valueOf g (record { name = n; content = c; place = place }) ≡ Ok h → Placed g n c h
+
+value-placed : (g h : Gathered Number) (c : List ℕ) (place n : ℕ) → known n ≡ true → ValuePlaced g h c place n
 value-placed g h c place n k =
-    by-name P n 0x0B (placed g h 0x0B c content (with-redirecting g) _ (content-octets c place) (λ x. (refl, λ m ne. grind (arith, tells)))) (λ a.
-    by-name P n 0x28 (placed g h 0x28 c content (with-original g) _ (content-octets c place) (λ x. (refl, λ m ne. grind (arith, tells)))) (λ b.
-    by-name P n 0x13 (placed g h 0x13 c informationOctets (with-information g) _ (λ x e. information-octets c x (value-found _ place x e)) (λ x. (refl, λ m ne. grind (arith, tells)))) (λ d.
-    by-name P n 0x29 (placed-octet g h (with-may-divert g) 0x29 0x02 place c (refl, λ m ne. grind (arith, tells))) (λ e.
-    by-name P n 0x2C (placed-octet g h (with-announced g) 0x2C 0xFB place c (refl, λ m ne. grind (arith, tells))) (λ f.
-    by-name P n 0x36 (placed g h 0x36 c diversionOctets (with-diversion g) _ (λ x e. diversion-octets c x (value-found _ place x e)) (λ x. (refl, λ m ne. grind (arith, tells)))) (λ i.
-    by-name P n 0x0C (placed g h 0x0C c (λ x. plain (x .number)) (with-redirection g) _ (plain-octets c place) (λ x. (refl, λ m ne. grind (arith, tells)))) (λ j.
-    (let last : n ≡ 0x40 = grind (arith, tells) in
-    subst P (sym last) (placed g h 0x40 c restrictionOctets (with-restriction g) _ (λ x e. restriction-octets c x (value-found _ place x e)) (λ x. (refl, λ m ne. grind (arith, tells))))))))))))
-  where
-    abbrev P : ℕ → Type 0
-    P n = valueOf g (record { name = n; content = c; place = place }) ≡ Ok h → Placed g n c h
+    let P = ValuePlaced g h c place in
+    by-name P n 0x0B (placed g h 0x0B c content (with-redirecting g) _ (content-octets c place) (λ x. (refl, λ m ne. grind (arith, tells)))) (λ n0B.
+    by-name P n 0x28 (placed g h 0x28 c content (with-original g) _ (content-octets c place) (λ x. (refl, λ m ne. grind (arith, tells)))) (λ n28.
+    by-name P n 0x13 (placed g h 0x13 c informationOctets (with-information g) _ (λ x e. information-octets c x (value-found _ place x e)) (λ x. (refl, λ m ne. grind (arith, tells)))) (λ n13.
+    by-name P n 0x29 (placed-octet g h (with-may-divert g) 0x29 0x02 place c (refl, λ m ne. grind (arith, tells))) (λ n29.
+    by-name P n 0x2C (placed-octet g h (with-announced g) 0x2C 0xFB place c (refl, λ m ne. grind (arith, tells))) (λ n2C.
+    by-name P n 0x36 (placed g h 0x36 c diversionOctets (with-diversion g) _ (λ x e. diversion-octets c x (value-found _ place x e)) (λ x. (refl, λ m ne. grind (arith, tells)))) (λ n36.
+    by-name P n 0x0C (placed g h 0x0C c (λ x. plain (x .number)) (with-redirection g) _ (plain-octets c place) (λ x. (refl, λ m ne. grind (arith, tells)))) (λ n0C.
+    by-name P n 0x40 (placed g h 0x40 c restrictionOctets (with-restriction g) _ (λ x e. restriction-octets c x (value-found _ place x e)) (λ x. (refl, λ m ne. grind (arith, tells)))) (λ n40.
+    absurd (grind (arith, tells))))))))))
 
 row-known : (row : Row) (n : ℕ) → has row n ≡ true → known n ≡ true
 row-known Initial n e = grind (arith, tells)
