@@ -1,13 +1,13 @@
 -- What is gathered from the optional part is what its parameters carry.
 use mathlib.Core.Path.{_≡_, refl, sym, ap, _∙_, subst}
-use mathlib.Core.Bool.{Bool, true, false, cond, _||_}
+use mathlib.Core.Bool.{Bool, true, false, cond}
 use mathlib.Core.List.{List, [], _∷_, _++_}
 use mathlib.Core.Logic.{inl, inr}
 use Prim.Native.Nat.{ℕ}
 use native.Mathlib.Omega.{arith}
 use lib.Dec.{eqb}
 use Rattle.std.proofs.shelf.Ways.{tells, eqb-tells}
-use Rattle.std.proofs.shelf.Tests.{or-parts, eqb-true, eqb-false, cases-bool, cond-true, cond-false}
+use Rattle.std.proofs.shelf.Tests.{or-parts, cases-bool, cond-true, cond-false}
 use Rattle.std.proofs.shelf.Lists.{append-nil}
 use Rattle.std.specs.declared.option.Option.{Option}
 use Rattle.std.specs.declared.option.Option.the-variants.{Some, None}
@@ -15,7 +15,6 @@ use Rattle.std.specs.declared.result.Result.{Result}
 use Rattle.std.specs.declared.result.Result.the-variants.{Ok, Err}
 use Rattle.numbers.specs.declared.number.Number.{Number}
 use Rattle.numbers.specs.Digits.{content, plain}
-use Rattle.numbers.specs.Reading.{readNumber}
 use Rattle.numbers.proofs.Contents.{passed}
 use Rattle.isup.specs.declared.row.Row.{Row}
 use Rattle.isup.specs.declared.row.Row.the-variants.{Initial, Backward, Connected, Bare}
@@ -24,31 +23,18 @@ use Rattle.isup.specs.Coding.{contents, informationOctets, diversionOctets, res
 use Rattle.decode.specs.declared.fault.MessageFault.{MessageFault}
 use Rattle.decode.specs.declared.fault.MessageFault.the-variants as fault
 use Rattle.decode.specs.declared.optional.Gathered.{Gathered}
-use Rattle.decode.specs.Faults.{then, orValueFault}
-use Rattle.decode.specs.Values.{isOctet, informationIn, diversionIn, restrictionIn}
+use Rattle.decode.specs.Faults.{then}
+use Rattle.decode.specs.Values.{isOctet}
 use Rattle.decode.specs.Parameters.{Part, known}
-use Rattle.decode.specs.Optional.{member, repeated, collected, nothing, numberAt, octetAt, valueOf, unlessRepeated, with-redirecting, with-original, with-information, with-may-divert, with-announced, with-diversion, with-redirection, with-restriction}
-use Rattle.decode.proofs.ValuesRead.{value-found, content-octets, plain-octets, information-octets, diversion-octets, restriction-octets, lone-octet}
+use Rattle.decode.specs.Optional.{member, repeated, collected, nothing, octetAt, valueOf, unlessRepeated, with-redirecting, with-original, with-information, with-may-divert, with-announced, with-diversion, with-redirection, with-restriction}
+use Rattle.decode.proofs.Passed.{not-both, not-found, no-answer, value-found, both, by-name}
+use Rattle.decode.proofs.ValuesRead.{content-octets, plain-octets, information-octets, diversion-octets, restriction-octets, lone-octet}
 use Rattle.decode.proofs.Parts.{withoutPlaces}
 use Rattle.decode.proofs.Fields.{gatheredField}
 
--- a reading after another, both without fault
-pub record Both {A B : Type 0} (r : Result A MessageFault) (f : A → Result B MessageFault) (y : B) : Type 0 where
-  pub value : A
-  pub first : r ≡ Ok value
-  pub next : f value ≡ Ok y
-
-pub both : {A B : Type 0} (r : Result A MessageFault) (f : A → Result B MessageFault) (y : B) → then r f ≡ Ok y → Both r f y
-both (Ok x) f y e = record { value = x; first = refl; next = e }
-both (Err x) f y e = absurd (let z : _≡_ {A = ℕ} 0 1 = cc in omega arith)
-
--- what holds at one name, and at each other, holds at every name
-pub by-name : (P : ℕ → Type 0) (n name : ℕ) → P name → ((n ≡ name → ⊥) → P n) → P n
-by-name P n name here elsewhere = elim (eqb-tells n name) [ inl t ↦ subst P (sym (t .1)) here | inr t ↦ elsewhere (t .1) ]
-
 -- a content stands under a name, and what stands under the others is as before
 abbrev Placed : Gathered Number → ℕ → List ℕ → Gathered Number → Type 0
-Placed g n c h = (gatheredField h n ≡ c ∷ []) × ((m : ℕ) → (m ≡ n → ⊥) → gatheredField h m ≡ gatheredField g m)
+Placed g n c h = (m : ℕ) → gatheredField h m ≡ cond (eqb m n) (c ∷ []) (gatheredField g m)
 
 -- a value that is read and kept
 placed :
@@ -73,14 +59,14 @@ ValuePlaced g h c place n = valueOf g (record { name = n; content = c; place = p
 value-placed : (g h : Gathered Number) (c : List ℕ) (place n : ℕ) → known n ≡ true → ValuePlaced g h c place n
 value-placed g h c place n k =
     let P = ValuePlaced g h c place in
-    by-name P n 0x0B (placed g h 0x0B c content (with-redirecting g) _ (content-octets c place) (λ x. (refl, λ m ne. grind (arith, tells)))) (λ n0B.
-    by-name P n 0x28 (placed g h 0x28 c content (with-original g) _ (content-octets c place) (λ x. (refl, λ m ne. grind (arith, tells)))) (λ n28.
-    by-name P n 0x13 (placed g h 0x13 c informationOctets (with-information g) _ (λ x e. information-octets c x (value-found _ place x e)) (λ x. (refl, λ m ne. grind (arith, tells)))) (λ n13.
-    by-name P n 0x29 (placed-octet g h (with-may-divert g) 0x29 0x02 place c (refl, λ m ne. grind (arith, tells))) (λ n29.
-    by-name P n 0x2C (placed-octet g h (with-announced g) 0x2C 0xFB place c (refl, λ m ne. grind (arith, tells))) (λ n2C.
-    by-name P n 0x36 (placed g h 0x36 c diversionOctets (with-diversion g) _ (λ x e. diversion-octets c x (value-found _ place x e)) (λ x. (refl, λ m ne. grind (arith, tells)))) (λ n36.
-    by-name P n 0x0C (placed g h 0x0C c (λ x. plain (x .number)) (with-redirection g) _ (plain-octets c place) (λ x. (refl, λ m ne. grind (arith, tells)))) (λ n0C.
-    by-name P n 0x40 (placed g h 0x40 c restrictionOctets (with-restriction g) _ (λ x e. restriction-octets c x (value-found _ place x e)) (λ x. (refl, λ m ne. grind (arith, tells)))) (λ n40.
+    by-name P n 0x0B (placed g h 0x0B c content (with-redirecting g) _ (content-octets c place) (λ x m. grind (arith, tells))) (λ n0B.
+    by-name P n 0x28 (placed g h 0x28 c content (with-original g) _ (content-octets c place) (λ x m. grind (arith, tells))) (λ n28.
+    by-name P n 0x13 (placed g h 0x13 c informationOctets (with-information g) _ (λ x e. information-octets c x (value-found _ place x e)) (λ x m. grind (arith, tells))) (λ n13.
+    by-name P n 0x29 (placed-octet g h (with-may-divert g) 0x29 0x02 place c (λ m. grind (arith, tells))) (λ n29.
+    by-name P n 0x2C (placed-octet g h (with-announced g) 0x2C 0xFB place c (λ m. grind (arith, tells))) (λ n2C.
+    by-name P n 0x36 (placed g h 0x36 c diversionOctets (with-diversion g) _ (λ x e. diversion-octets c x (value-found _ place x e)) (λ x m. grind (arith, tells))) (λ n36.
+    by-name P n 0x0C (placed g h 0x0C c (λ x. plain (x .number)) (with-redirection g) _ (plain-octets c place) (λ x m. grind (arith, tells))) (λ n0C.
+    by-name P n 0x40 (placed g h 0x40 c restrictionOctets (with-restriction g) _ (λ x e. restriction-octets c x (value-found _ place x e)) (λ x m. grind (arith, tells))) (λ n40.
     absurd (grind (arith, tells))))))))))
 
 row-known : (row : Row) (n : ℕ) → has row n ≡ true → known n ≡ true
@@ -91,12 +77,12 @@ row-known Bare n e = grind (arith, tells)
 
 unmet : (b : Bool) (place : ℕ) (o : Option ℕ) → cond b (Some place) o ≡ None → (b ≡ false) × (o ≡ None)
 unmet false place o e = (refl, e)
-unmet true place o e = absurd (let z : _≡_ {A = ℕ} 0 1 = cc in omega arith)
+unmet true place o e = not-found place (sym e)
 
 other : (row : Row) (n m : ℕ) → has row n ≡ true → has row m ≡ false → eqb n m ≡ false
 other row n m k f =
     elim (eqb-tells n m)
-    [ inl t ↦ absurd (let q : true ≡ false = sym k ∙ ap (has row) (t .1) ∙ f in let z : _≡_ {A = ℕ} 0 1 = cc in omega arith) | inr t ↦ t .0 ]
+    [ inl t ↦ not-both (sym k ∙ ap (has row) (t .1) ∙ f) | inr t ↦ t .0 ]
 
 -- nothing stands under the names of the row that are not met yet
 abbrev Unmet : Row → List ℕ → Gathered Number → Type 0
@@ -110,11 +96,10 @@ one-more :
     has row n ≡ true → gatheredField h n ++ rest ≡ gatheredField g n ++ cond (eqb n (p .name)) (p .content ∷ rest) rest
 one-more row met g h p rest n put new empty k =
     elim (eqb-tells n (p .name))
-    [ inl t ↦ (let here : gatheredField h n ≡ p .content ∷ [] = ap (gatheredField h) (t .1) ∙ put .0 in
-      rw (t .0, here, empty n (ap (λ (x : ℕ). member x met) (t .1) ∙ new) k))
-    | inr t ↦ rw (t .0, put .1 n (t .1)) ]
+    [ inl t ↦ rw (put n, t .0, empty n (ap (λ (x : ℕ). member x met) (t .1) ∙ new) k)
+    | inr t ↦ rw (put n, t .0) ]
 
-pub gathers :
+gathers :
     (row : Row) (met : List ℕ) (g h : Gathered Number) (ps : List Part) → repeated row met ps ≡ None → collected row g ps ≡ Ok h → Unmet row met g →
     (n : ℕ) → has row n ≡ true → gatheredField h n ≡ gatheredField g n ++ contents n (withoutPlaces ps)
 gathers row met g h [] r e empty n k =
@@ -127,7 +112,7 @@ gathers row met g h (p ∷ ps) r e empty n k =
       let a = both (valueOf g p) (λ x. collected row x ps) h (sym (cond-true (has row (p .name)) _ _ t) ∙ e) in
       let put = value-placed g (a .value) (p .content) (p .place) (p .name) (row-known row (p .name) t) (a .first) in
       let empty′ : Unmet row (p .name ∷ met) (a .value) =
-          λ m q s. (let o = or-parts (eqb m (p .name)) (member m met) q in put .1 m (eqb-false m (p .name) (o .0)) ∙ empty m (o .1) s) in
+          λ m q s. (let o = or-parts (eqb m (p .name)) (member m met) q in put m ∙ cond-false (eqb m (p .name)) _ _ (o .0) ∙ empty m (o .1) s) in
       gathers row (p .name ∷ met) (a .value) h ps (new .1) (a .next) empty′ n k
       ∙ one-more row met g (a .value) p (contents n (withoutPlaces ps)) n put (new .0) empty k)
     | inr f ↦
@@ -145,4 +130,4 @@ carried row h ps e n k =
   where
     once : (o : Option ℕ) (r : Result (Gathered Number) MessageFault) → unlessRepeated o r ≡ Ok h → (o ≡ None) × (r ≡ Ok h)
     once None r e = (refl, e)
-    once (Some place) r e = absurd (let z : _≡_ {A = ℕ} 0 1 = cc in omega arith)
+    once (Some place) r e = no-answer _ h e

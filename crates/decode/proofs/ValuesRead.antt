@@ -21,25 +21,13 @@ use Rattle.isup.specs.declared.message.Cause.{Cause}
 use Rattle.isup.specs.declared.message.RedirectionInformation.{RedirectionInformation}
 use Rattle.isup.specs.declared.message.DiversionInformation.{DiversionInformation}
 use Rattle.isup.specs.declared.message.Restriction.{Restriction}
-use Rattle.isup.specs.Ranges.{causeIn, countIn}
-use Rattle.isup.specs.Codes.{reasonCode, reasonOf, notificationCode, notificationOf, indicatorCode, indicatorOf, restrictionCode, restrictionOf}
+use Rattle.isup.specs.Ranges.{countIn}
+use Rattle.isup.specs.Codes.{reasonCode, reasonOf, notificationCode, notificationOf, indicatorCode, indicatorOf, restrictionCode}
 use Rattle.isup.specs.Coding.{informationOctets, diversionOctets, restrictionOctets}
 use Rattle.isup.proofs.Coded.{code-of-found, number-of-cause, number-of-count}
-use Rattle.decode.specs.declared.fault.MessageFault.{MessageFault}
-use Rattle.decode.specs.declared.fault.MessageFault.the-variants as fault
-use Rattle.decode.specs.Faults.{orValueFault}
-use Rattle.decode.specs.Values.{andThen, isOctet, informationIn, diversionIn, restrictionIn, causeFrom}
+use Rattle.decode.specs.Values.{isOctet, informationIn, diversionIn, restrictionIn, causeFrom}
 use Rattle.decode.specs.Optional.{numberAt}
-
--- a value that was found behind a test passed it
-found-passed : {A : Type 0} (b : Bool) (o : Option A) (x : A) → cond b o None ≡ Some x → (b ≡ true) × (o ≡ Some x)
-found-passed true o x e = (refl, e)
-found-passed false o x e = absurd (let z : _≡_ {A = ℕ} 0 1 = cc in omega arith)
-
--- a value that was found after another
-found-after : {A B : Type 0} (o : Option A) (f : A → Option B) (y : B) → andThen o f ≡ Some y → (x : A) × ((o ≡ Some x) × (f x ≡ Some y))
-found-after (Some x) f y e = (x, (refl, e))
-found-after None f y e = absurd (let z : _≡_ {A = ℕ} 0 1 = cc in omega arith)
+use Rattle.decode.proofs.Passed.{no-answer, found-passed, found-after}
 
 one : (c : List ℕ) (x : ℕ) → length c ≡ 1 → getD c 0 0 ≡ x → c ≡ x ∷ []
 one [] x l e = absurd (omega arith)
@@ -95,17 +83,13 @@ lone-octet c n e =
     let p = and-parts (eqb (length c) 1) (eqb (getD c 0 0) n) e in
     one c n (eqb-true (length c) 1 (p .0)) (eqb-true (getD c 0 0) n (p .1))
 
-pub value-found : {A : Type 0} (o : Option A) (place : ℕ) (x : A) → orValueFault o place ≡ Ok x → o ≡ Some x
-value-found (Some y) place x e = cc
-value-found None place x e = absurd (let z : _≡_ {A = ℕ} 0 1 = cc in omega arith)
-
 -- a number at a place is coded there
 pub number-coded : (may : Bool) (c : List ℕ) (place : ℕ) (p : Party Number) → numberAt place (readNumber may c) ≡ Ok p → NumberCoded may p c
 number-coded may c place p e = let r = read (readNumber may c) e in sound may c p (r .0) (r .1) .0
   where
     read : (r : Result (Party Number × ℕ) NumberFault) → numberAt place r ≡ Ok p → (used : ℕ) × (r ≡ Ok (p, used))
     read (Ok q) e = (q .1, ap (λ (x : Party Number). Ok (x, q .1)) (let is : q .0 ≡ p = cc in is))
-    read (Err f) e = absurd (let z : _≡_ {A = ℕ} 0 1 = cc in omega arith)
+    read (Err f) e = no-answer _ p e
 
 pub content-octets : (c : List ℕ) (place : ℕ) (p : Party Number) → numberAt place (readNumber true c) ≡ Ok p → c ≡ content p
 content-octets c place p e = number-coded true c place p e .same
