@@ -3,7 +3,7 @@ use mathlib.Core.Path.{_≡_, refl, sym, ap, _∙_, subst}
 use mathlib.Core.Bool.{Bool, true, false, _||_}
 use mathlib.Core.List.{List, [], _∷_, _++_}
 use mathlib.Core.Logic.{inl, inr}
-use Prim.Native.Nat.{ℕ, _+_, _-_, _≤_, _<_}
+use Prim.Native.Nat.{ℕ}
 use native.Mathlib.Omega.{arith}
 use lib.Dec.{eqb}
 use lib.ListN.{length, take, drop}
@@ -25,8 +25,8 @@ use Rattle.isup.specs.declared.message.Message.{Message}
 use Rattle.isup.specs.declared.message.Message.the-variants.{InitialAddress, AddressComplete, CallProgress, Answer, Connect, Release}
 use Rattle.isup.specs.Rows.{has}
 use Rattle.isup.specs.Coding.{Parameter, Named, contents, ifThere, restrictionOctets, redirectionField, backwardField, fieldOf, rowOf, Coded}
-use Rattle.encode.specs.Sending.{some, redirectionSent, mayDivertSent, noticeSent, restrictionSent, backwardSent, sent}
-use Rattle.encode.specs.Writing.{written, sizeOf, MessageWritten}
+use Rattle.encode.specs.Sending.{anySent, redirectionSent, mayDivertSent, noticeSent, restrictionSent, backwardSent, sent}
+use Rattle.encode.specs.Writing.{written, MessageWritten}
 use Rattle.encode.proofs.Sizes.{length-written, message-short}
 
 -- a name is one of these
@@ -115,7 +115,7 @@ sent-named (Answer r) = restriction-named r
 sent-named (Connect r) = restriction-named r
 sent-named (Release c) = tt
 
-none-sent : (ps : List Parameter) → some ps ≡ false → ps ≡ []
+none-sent : (ps : List Parameter) → anySent ps ≡ false → ps ≡ []
 none-sent [] e = refl
 none-sent (p ∷ ps) e = absurd (false≢true (sym e))
 
@@ -124,7 +124,7 @@ pub written-is-coded : (c : Circuit) (m : Message Number) → Coded c m (written
 written-is-coded c m =
     record {
       short = omega (arith, length-written c m, message-short m);
-      there = some (sent m);
+      there = anySent (sent m);
       parameters = sent m;
       absent = none-sent (sent m);
       named = sent-named m;

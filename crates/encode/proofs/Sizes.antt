@@ -1,5 +1,5 @@
 -- How many octets a message takes.
-use mathlib.Core.Path.{_≡_, refl, sym, ap, _∙_}
+use mathlib.Core.Path.{_≡_, refl}
 use mathlib.Core.Bool.{Bool, true, false}
 use mathlib.Core.List.{List, [], _∷_, _++_}
 use Prim.Native.Nat.{ℕ, _+_, _≤_}
@@ -9,7 +9,7 @@ use Rattle.std.proofs.shelf.Lists.{length-append}
 use Rattle.std.specs.declared.option.Option.{Option}
 use Rattle.std.specs.declared.option.Option.the-variants.{Some, None}
 use Rattle.numbers.specs.declared.number.Number.{Number}
-use Rattle.numbers.specs.Digits.{content, plain}
+use Rattle.numbers.specs.Digits.{plain}
 use Rattle.numbers.proofs.Contents.{content-short}
 use Rattle.isup.specs.declared.message.Circuit.{Circuit}
 use Rattle.isup.specs.declared.message.Restriction.{Restriction}
@@ -19,7 +19,7 @@ use Rattle.isup.specs.declared.message.Backward.{Backward}
 use Rattle.isup.specs.declared.message.Message.{Message}
 use Rattle.isup.specs.declared.message.Message.the-variants.{InitialAddress, AddressComplete, CallProgress, Answer, Connect, Release}
 use Rattle.isup.specs.Coding.{Parameter, encoded, optionalOctets, behind}
-use Rattle.encode.specs.Sending.{some, redirectionSent, mayDivertSent, noticeSent, restrictionSent, backwardSent, sent}
+use Rattle.encode.specs.Sending.{anySent, redirectionSent, mayDivertSent, noticeSent, restrictionSent, backwardSent}
 use Rattle.encode.specs.Writing.{written, parametersSize, optionalSize, sizeOf}
 
 length-encoded : (ps : List Parameter) → length (encoded ps) ≡ parametersSize ps
@@ -29,16 +29,16 @@ length-encoded (p ∷ ps) =
     let b = length-encoded ps in
     omega arith
 
-length-optional : (ps : List Parameter) → length (optionalOctets (some ps) ps) ≡ optionalSize ps
+length-optional : (ps : List Parameter) → length (optionalOctets (anySent ps) ps) ≡ optionalSize ps
 length-optional [] = refl
 length-optional (p ∷ ps) =
     let a = length-append (encoded (p ∷ ps)) (0 ∷ []) in
     let b = length-encoded (p ∷ ps) in
     omega arith
 
-length-pointed : (v : List ℕ) (ps : List Parameter) → length (behind (Some v) (some ps) ps) ≡ 3 + length v + optionalSize ps
+length-pointed : (v : List ℕ) (ps : List Parameter) → length (behind (Some v) (anySent ps) ps) ≡ 3 + length v + optionalSize ps
 length-pointed v ps =
-    let a = length-append v (optionalOctets (some ps) ps) in
+    let a = length-append v (optionalOctets (anySent ps) ps) in
     let b = length-optional ps in
     omega arith
 

@@ -15,9 +15,9 @@ use Rattle.isup.specs.declared.message.Message.the-variants.{InitialAddress, Ad
 use Rattle.isup.specs.Coding.{Parameter, informationOctets, diversionOctets, restrictionOctets}
 
 -- whether there is any parameter, and so an optional part
-abbrev pub some : List Parameter → Bool
-some [] = false
-some (p ∷ ps) = true
+abbrev pub anySent : List Parameter → Bool
+anySent [] = false
+anySent (p ∷ ps) = true
 
 abbrev pub redirectionSent : Option (Redirection Number) → List Parameter
 redirectionSent (Some r) = (0x0B, content (r .redirecting)) ∷ (0x28, content (r .original)) ∷ (0x13, informationOctets (r .information)) ∷ []

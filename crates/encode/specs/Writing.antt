@@ -14,11 +14,11 @@ use Rattle.isup.specs.declared.message.Message.{Message}
 use Rattle.isup.specs.declared.message.Message.the-variants.{InitialAddress, AddressComplete, CallProgress, Answer, Connect, Release}
 use Rattle.isup.specs.Ranges.{circuitOctets}
 use Rattle.isup.specs.Coding.{Parameter, headOf, variableOf, behind, Coded}
-use Rattle.encode.specs.Sending.{some, sent}
+use Rattle.encode.specs.Sending.{anySent, sent}
 
 -- the octets behind the circuit
 abbrev pub body : Message Number → List ℕ
-body m = headOf m ++ behind (variableOf m) (some (sent m)) (sent m)
+body m = headOf m ++ behind (variableOf m) (anySent (sent m)) (sent m)
 
 -- the octets that are written for a message
 abbrev pub written : Circuit → Message Number → List ℕ
@@ -48,18 +48,18 @@ abbrev pub sizeOf : Message Number → ℕ
 sizeOf m = mandatorySize m + optionalSize (sent m)
 
 -- the first n octets code the message and take no more room than it asks for, and what lies behind stays
-pub record Fits (c : Circuit) (m : Message Number) (old new : List ℕ) (n : ℕ) : Type 0 where
+pub record AtFront (c : Circuit) (m : Message Number) (old new : List ℕ) (n : ℕ) : Type 0 where
   pub coded : Coded c m (take n new)
   pub size : n ≡ sizeOf m
   pub room : n ≤ length old
   pub rest : drop n new ≡ drop n old
 
 -- memory that is too short stays whole
-pub record Lacks (m : Message Number) (old new : List ℕ) (e : Refusal) : Type 0 where
+pub record NoRoom (m : Message Number) (old new : List ℕ) (e : Refusal) : Type 0 where
   pub refusal : e ≡ TooShort
   pub size : length old < sizeOf m
   pub same : new ≡ old
 
 abbrev pub MessageWritten : Circuit → Message Number → List ℕ → List ℕ → Result ℕ Refusal → Type 0
-MessageWritten c m old new (Ok n) = Fits c m old new n
-MessageWritten c m old new (Err e) = Lacks m old new e
+MessageWritten c m old new (Ok n) = AtFront c m old new n
+MessageWritten c m old new (Err e) = NoRoom m old new e

@@ -4,7 +4,7 @@ ghost use mathlib.Core.List.{_++_};
 ghost use Rattle.numbers.specs.Drafts.{drafted, cut};
 ghost use Rattle.isup.specs.declared.message.Message.the-variants.{InitialAddress};
 ghost use Rattle.encode.specs.Sending.{onlyRestriction};
-ghost use Rattle.encode.specs.Writing.{body, written, MessageWritten};
+ghost use Rattle.encode.specs.Writing.{body, MessageWritten};
 use isup::message::Backward;
 use isup::message::Circuit;
 use isup::message::Message;
@@ -36,25 +36,14 @@ fn draft_initial(
     };
     let len = called.content_len() as u8;
     let pointer = if redirection.is_some() { 2 + len } else { 0x00 };
-    draft.push_all(
-        &[
-            0x01,
-            0x00,
-            0x20,
-            0x01,
-            0x0A,
-            service.code(),
-            0x02,
-            pointer,
-            len,
-        ],
-    );
+    draft.push_all(&[0x01, 0x00, 0x20, 0x01, 0x0A, service.code()]);
+    draft.push_all(&[0x02, pointer, len]);
     called.draft(draft);
     draft_redirection(redirection, draft);
 }
 
-// The optional parts of an answer and of a connect, as of the messages that may have more.
-fn only(restriction: Option<Restriction>) -> Backward<Number>
+// The optional parts of an answer or a connect: those of an address complete that has no others.
+fn only_restriction(restriction: Option<Restriction>) -> Backward<Number>
     ensures { λ r. ⌜ r ≡ onlyRestriction restriction ⌝ }
 {
     Backward {
@@ -85,11 +74,11 @@ fn draft_body(message: &Message<Number>, draft: &mut Draft)
         }
         Message::Answer(restriction) => {
             draft.push(0x09);
-            draft_backward(&only(restriction), draft);
+            draft_backward(&only_restriction(restriction), draft);
         }
         Message::Connect(restriction) => {
             draft.push_all(&[0x07, 0x04, 0x14]);
-            draft_backward(&only(restriction), draft);
+            draft_backward(&only_restriction(restriction), draft);
         }
         Message::Release(cause) => draft.push_all(
             &[0x0C, 0x02, 0x00, 2, 0x82, 0x80 | cause.value()],

@@ -5,7 +5,7 @@ ghost use Rattle.numbers.specs.Digits.{content};
 ghost use Rattle.numbers.specs.Drafts.{drafted, cut};
 ghost use Rattle.isup.specs.Coding.{encoded, informationOctets, diversionOctets, optionalOctets, behind};
 ghost use Rattle.std.specs.declared.option.Option.the-variants.{None};
-ghost use Rattle.encode.specs.Sending.{redirectionSent, mayDivertSent, noticeSent, restrictionSent, backwardSent, some};
+ghost use Rattle.encode.specs.Sending.{redirectionSent, mayDivertSent, noticeSent, restrictionSent, backwardSent, anySent};
 use isup::message::Backward;
 use isup::message::DiversionInformation;
 use isup::message::Notice;
@@ -44,7 +44,7 @@ fn draft_party(name: u8, party: &Party<Number>, draft: &mut Draft)
 
 // The optional part of an initial address: what it tells of diversions, and the closing 00.
 pub(crate) fn draft_redirection(redirection: Option<Redirection<Number>>, draft: &mut Draft)
-    ensures { λ _. ⌜ drafted (now (draft .exit)) ≡ cut (drafted (now (draft .entry)) ++ optionalOctets (some (redirectionSent redirection)) (redirectionSent redirection)) ⌝ }
+    ensures { λ _. ⌜ drafted (now (draft .exit)) ≡ cut (drafted (now (draft .entry)) ++ optionalOctets (anySent (redirectionSent redirection)) (redirectionSent redirection)) ⌝ }
 {
     let Some(redirection) = redirection else {
         return;
@@ -86,14 +86,14 @@ fn draft_restriction(restriction: Option<Restriction>, draft: &mut Draft)
 }
 
 fn sends_any(backward: &Backward<Number>) -> bool
-    ensures { λ r. ⌜ r ≡ some (backwardSent (now (backward .entry))) ⌝ }
+    ensures { λ r. ⌜ r ≡ anySent (backwardSent (now (backward .entry))) ⌝ }
 {
     backward.may_divert || backward.notice.is_some() || backward.restriction.is_some()
 }
 
 // What stands behind the fixed octets of a message without a variable field: the pointer, and the optional part if there is any.
 pub(crate) fn draft_backward(backward: &Backward<Number>, draft: &mut Draft)
-    ensures { λ _. ⌜ drafted (now (draft .exit)) ≡ cut (drafted (now (draft .entry)) ++ behind None (some (backwardSent (now (backward .entry)))) (backwardSent (now (backward .entry)))) ⌝ }
+    ensures { λ _. ⌜ drafted (now (draft .exit)) ≡ cut (drafted (now (draft .entry)) ++ behind None (anySent (backwardSent (now (backward .entry)))) (backwardSent (now (backward .entry)))) ⌝ }
 {
     if !sends_any(backward) {
         return draft.push(0x00);

@@ -7,14 +7,14 @@ use Rattle.numbers.specs.declared.number.Number.{Number}
 use Rattle.numbers.specs.Drafts.{drafted}
 use Rattle.isup.specs.declared.message.Backward.{Backward}
 use Rattle.isup.specs.Coding.{behind}
-use Rattle.encode.specs.Sending.{some, backwardSent}
+use Rattle.encode.specs.Sending.{anySent, backwardSent}
 use Rattle.encode.specs.Writing.{body}
 use Rattle.encode.proofs.Adds.{added-same, added-two, topped}
 use Rattle.encode.proofs.draft_body.Needs as need
 
 -- what stands behind the fixed octets
 abbrev tail : Backward Number → List ℕ
-tail b = behind None (some (backwardSent b)) (backwardSent b)
+tail b = behind None (anySent (backwardSent b)) (backwardSent b)
 
 pub returns-in-AddressComplete : need.returns-in-AddressComplete
 returns-in-AddressComplete c =
@@ -31,15 +31,15 @@ returns-in-CallProgress c =
 
 pub returns-in-Answer : need.returns-in-Answer
 returns-in-Answer c =
-    added-two (drafted (c .args .draft .now)) (drafted (c .push .last .self)) (drafted (c .draft-backward-in-Answer .last .draft)) (0x09 ∷ []) (tail (c .only .result)) _
+    added-two (drafted (c .args .draft .now)) (drafted (c .push .last .self)) (drafted (c .draft-backward-in-Answer .last .draft)) (0x09 ∷ []) (tail (c .only-restriction .result)) _
     (c .push .ensures) (c .draft-backward-in-Answer .ensures)
-    (ap (λ (x : Backward Number). 0x09 ∷ tail x) (c .only .ensures) ∙ ap body (sym (c .in-Answer .is)))
+    (ap (λ (x : Backward Number). 0x09 ∷ tail x) (c .only-restriction .ensures) ∙ ap body (sym (c .in-Answer .is)))
 
 pub returns-in-Connect : need.returns-in-Connect
 returns-in-Connect c =
     added-two (drafted (c .args .draft .now)) (drafted (c .push-all-in-Connect .last .self)) (drafted (c .draft-backward-in-Connect .last .draft)) (0x07 ∷ 0x04 ∷ 0x14 ∷ [])
-    (tail (c .only-in-Connect .result)) _ (c .push-all-in-Connect .ensures) (c .draft-backward-in-Connect .ensures)
-    (ap (λ (x : Backward Number). 0x07 ∷ 0x04 ∷ 0x14 ∷ tail x) (c .only-in-Connect .ensures) ∙ ap body (sym (c .in-Connect .is)))
+    (tail (c .only-restriction-in-Connect .result)) _ (c .push-all-in-Connect .ensures) (c .draft-backward-in-Connect .ensures)
+    (ap (λ (x : Backward Number). 0x07 ∷ 0x04 ∷ 0x14 ∷ tail x) (c .only-restriction-in-Connect .ensures) ∙ ap body (sym (c .in-Connect .is)))
 
 pub returns-in-Release : need.returns-in-Release
 returns-in-Release c =

@@ -5,7 +5,7 @@ use Rattle.std.specs.declared.option.Option.the-variants.{None}
 use Rattle.numbers.specs.Drafts.{drafted}
 use Rattle.numbers.proofs.Cuts.{cut-more}
 use Rattle.isup.specs.Coding.{encoded, behind}
-use Rattle.encode.specs.Sending.{some, mayDivertSent, noticeSent, restrictionSent, backwardSent}
+use Rattle.encode.specs.Sending.{anySent, mayDivertSent, noticeSent, restrictionSent, backwardSent}
 use Rattle.encode.proofs.Adds.{added-two, added-three, encoded-three}
 use Rattle.encode.proofs.optional.draft_backward.Needs as need
 
@@ -15,7 +15,7 @@ returns c =
     let may = mayDivertSent (b .«may_divert») in
     let notice = noticeSent (b .notice) in
     let restriction = restrictionSent (b .restriction) in
-    let any : some (backwardSent b) ≡ true = sym (c .sends-any .ensures) ∙ c .if-not-sends-any .left in
+    let any : anySent (backwardSent b) ≡ true = sym (c .sends-any .ensures) ∙ c .if-not-sends-any .left in
     let parts =
     added-three (drafted (c .push-2 .last .self)) (drafted (c .draft-may-divert .last .draft)) (drafted (c .draft-notice .last .draft)) (drafted (c .push-3 .last .self))
     (encoded may) (encoded notice) (encoded restriction ++ (0 ∷ [])) (encoded (backwardSent b) ++ (0 ∷ [])) (c .draft-may-divert .ensures) (c .draft-notice .ensures)

@@ -1,21 +1,20 @@
-use mathlib.Core.Path.{_≡_, sym, ap, _∙_}
+use mathlib.Core.Path.{sym, ap, _∙_}
 use mathlib.Core.List.{List, [], _∷_, _++_}
 use Prim.Native.Nat.{ℕ}
 use lib.ListN.{getD}
 use Rattle.std.specs.declared.option.Option.{Option}
-use Rattle.std.specs.declared.option.Option.the-variants.{Some}
 use Rattle.numbers.specs.declared.number.Number.{Number}
 use Rattle.numbers.specs.Digits.{content}
 use Rattle.numbers.specs.Drafts.{drafted}
 use Rattle.isup.specs.declared.message.Redirection.{Redirection}
 use Rattle.isup.specs.Coding.{encoded, informationOctets, optionalOctets}
-use Rattle.encode.specs.Sending.{some, redirectionSent}
+use Rattle.encode.specs.Sending.{anySent, redirectionSent}
 use Rattle.encode.proofs.Adds.{added-none, added-same, added-three, encoded-three}
 use Rattle.encode.proofs.optional.draft_redirection.Needs as need
 
 pub returns-in-rest : need.returns-in-rest
 returns-in-rest c =
-    added-none (c .args .draft .now) _ (ap (λ (r : Option (Redirection Number)). optionalOctets (some (redirectionSent r)) (redirectionSent r)) (c .in-rest .is))
+    added-none (c .args .draft .now) _ (ap (λ (r : Option (Redirection Number)). optionalOctets (anySent (redirectionSent r)) (redirectionSent r)) (c .in-rest .is))
 
 pub returns : need.returns
 returns c =
@@ -27,4 +26,4 @@ returns c =
     added-three (drafted (c .args .draft .now)) (drafted (c .draft-party .last .draft)) (drafted (c .draft-party-2 .last .draft)) (drafted (c .push-all .last .self))
     (encoded first) (encoded second) (encoded third ++ (0 ∷ [])) _ (c .draft-party .ensures) (c .draft-party-2 .ensures) last
     (encoded-three first second third (0 ∷ [])
-    ∙ ap (λ (o : Option (Redirection Number)). optionalOctets (some (redirectionSent o)) (redirectionSent o)) (sym (c .in-Some .is)))
+    ∙ ap (λ (o : Option (Redirection Number)). optionalOctets (anySent (redirectionSent o)) (redirectionSent o)) (sym (c .in-Some .is)))

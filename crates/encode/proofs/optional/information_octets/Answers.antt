@@ -1,7 +1,4 @@
-use mathlib.Core.Path.{_≡_}
-use Prim.Native.Nat.{_<_, _+_, _*_, _%_}
 use native.Mathlib.Omega.{arith}
-use lib.Bits.{bitOr}
 use Rattle.encode.proofs.Adds.{reason-low, halves}
 use Rattle.encode.proofs.optional.information_octets.Needs as need
 
