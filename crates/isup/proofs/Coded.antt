@@ -43,6 +43,9 @@ found-service service.Speech = refl
 found-service service.Digital64 = refl
 found-service service.Audio = refl
 
+pub code-of-service : (n : ℕ) (x : Service) → serviceOf n ≡ Some x → n ≡ serviceCode x
+code-of-service = code-of-found serviceCode (service.Speech ∷ service.Digital64 ∷ service.Audio ∷ [])
+
 pub found-reason : (x : Reason) → reasonOf (reasonCode x) ≡ Some x
 found-reason reason.Unknown = refl
 found-reason reason.Busy = refl
@@ -52,32 +55,55 @@ found-reason reason.DeflectionAlerting = refl
 found-reason reason.DeflectionImmediate = refl
 found-reason reason.MobileUnreachable = refl
 
+pub code-of-reason : (n : ℕ) (x : Reason) → reasonOf n ≡ Some x → n ≡ reasonCode x
+code-of-reason =
+    code-of-found reasonCode
+    (reason.Unknown ∷ reason.Busy ∷ reason.NoReply ∷ reason.Unconditional ∷ reason.DeflectionAlerting ∷ reason.DeflectionImmediate ∷ reason.MobileUnreachable ∷ [])
+
 pub found-notification : (x : Notification) → notificationOf (notificationCode x) ≡ Some x
 found-notification notification.Unknown = refl
 found-notification notification.NotAllowed = refl
 found-notification notification.WithNumber = refl
 found-notification notification.WithoutNumber = refl
 
+pub code-of-notification : (n : ℕ) (x : Notification) → notificationOf n ≡ Some x → n ≡ notificationCode x
+code-of-notification = code-of-found notificationCode (notification.Unknown ∷ notification.NotAllowed ∷ notification.WithNumber ∷ notification.WithoutNumber ∷ [])
+
 pub found-indicator : (x : Indicator) → indicatorOf (indicatorCode x) ≡ Some x
 found-indicator indicator.Diverted = refl
 found-indicator indicator.AllRestricted = refl
 found-indicator indicator.NumberRestricted = refl
 
+pub code-of-indicator : (n : ℕ) (x : Indicator) → indicatorOf n ≡ Some x → n ≡ indicatorCode x
+code-of-indicator = code-of-found indicatorCode (indicator.Diverted ∷ indicator.AllRestricted ∷ indicator.NumberRestricted ∷ [])
+
 pub found-restriction : (x : Restriction) → restrictionOf (restrictionCode x) ≡ Some x
 found-restriction restriction.Allowed = refl
 found-restriction restriction.Restricted = refl
+
+pub code-of-restriction : (n : ℕ) (x : Restriction) → restrictionOf n ≡ Some x → n ≡ restrictionCode x
+code-of-restriction = code-of-found restrictionCode (restriction.Allowed ∷ restriction.Restricted ∷ [])
 
 pub found-status : (x : LineStatus) → statusOf (statusCode x) ≡ Some x
 found-status status.Free = refl
 found-status status.NoIndication = refl
 
+pub code-of-status : (n : ℕ) (x : LineStatus) → statusOf n ≡ Some x → n ≡ statusCode x
+code-of-status = code-of-found statusCode (status.Free ∷ status.NoIndication ∷ [])
+
 pub found-event : (x : Event) → eventOf (eventCode x) ≡ Some x
 found-event event.Alerting = refl
 found-event event.Progress = refl
 
+pub code-of-event : (n : ℕ) (x : Event) → eventOf n ≡ Some x → n ≡ eventCode x
+code-of-event = code-of-found eventCode (event.Alerting ∷ event.Progress ∷ [])
+
 pub found-way : (x : Way) → wayOf (wayCode x) ≡ Some x
 found-way way.Forward = refl
 found-way way.Back = refl
+
+pub code-of-way : (n : ℕ) (x : Way) → wayOf n ≡ Some x → n ≡ wayCode x
+code-of-way = code-of-found wayCode (way.Forward ∷ way.Back ∷ [])
 
 pub found-cause : (x : Cause) → causeIn (x .value) ≡ Some x
 found-cause x = sym (cause-made x)
