@@ -3,3 +3,5 @@ pub mod envelope;
 mod groups;
 pub mod message;
 pub mod parts;
+#[cfg(test)]
+mod tests;
