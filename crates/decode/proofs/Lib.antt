@@ -10,3 +10,4 @@ pub mod Passed
 pub mod Gathers
 pub mod Behind
 pub mod Sound
+pub mod Law

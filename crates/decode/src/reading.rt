@@ -5,6 +5,7 @@ ghost use lib.ListN.{length};
 ghost use Rattle.std.specs.Results.{Cases};
 ghost use Rattle.std.specs.declared.result.Result.the-variants.{Ok, Err};
 ghost use Rattle.decode.specs.Messages.{octetIn, exactIn, variableIn, optionalIn, tailIn, redirectionIn, noticeIn, serviceIn, backwardIn, initialAddressIn, addressCompleteIn, callProgressIn, answerIn, connectIn, releaseIn, messageIn, readMessage};
+ghost use Rattle.decode.specs.Reading.{ReadAsCoded, Every-coding-is-read, Only-codings-are-read, One-message-to-a-coding};
 use crate::fault::MessageFault;
 use crate::fault::MessageFaultFromFaultAt;
 use crate::fault::fault_at;
@@ -223,8 +224,8 @@ fn message(octets: &[u8]) -> Result<Message, MessageFault>
     }
 }
 
-// Reads a message with its circuit, or answers the first fault.
-pub fn read(octets: &[u8]) -> Result<(Circuit, Message), MessageFault>
+// The length, the circuit, and the message of the type octet.
+fn front_to_back(octets: &[u8]) -> Result<(Circuit, Message), MessageFault>
     ensures { λ r. ⌜ r ≡ readMessage (now (octets .entry)) ⌝ }
 {
     if octets.len() < 3 || octets.len() > 255 {
@@ -233,4 +234,23 @@ pub fn read(octets: &[u8]) -> Result<(Circuit, Message), MessageFault>
     let circuit = or_value_fault(Circuit::from_octets(octets[0], octets[1]), 0)?;
     let message = message(octets)?;
     Ok((circuit, message))
+}
+
+// Reads a message with its circuit, or answers the first fault. Octets are accepted exactly where they are a coding of some
+// message, and it is that message that is answered.
+pub fn read(octets: &[u8]) -> Result<(Circuit, Message), MessageFault>
+    ensures answer { λ r. ⌜ r ≡ readMessage (now (octets .entry)) ⌝ }
+    ensures coded { λ r. ⌜ ReadAsCoded (now (octets .entry)) r ⌝ }
+{
+    front_to_back(octets)
+}
+
+// What the definition of reading is worth: it reads every coding as its message and nothing else, and so no string of octets
+// codes two messages.
+pub fn codings_are_read_as_their_messages() -> u8
+    ensures every { λ _. ⌜ Every-coding-is-read ⌝ }
+    ensures only { λ _. ⌜ Only-codings-are-read ⌝ }
+    ensures one { λ _. ⌜ One-message-to-a-coding ⌝ }
+{
+    0
 }

@@ -25,6 +25,7 @@ use Rattle.isup.specs.declared.message.Message.{Message}
 use Rattle.isup.specs.declared.message.Message.the-variants.{InitialAddress, AddressComplete, CallProgress, Answer, Connect, Release}
 use Rattle.isup.specs.Rows.{has}
 use Rattle.isup.specs.Coding.{Parameter, Named, contents, ifThere, restrictionOctets, redirectionField, backwardField, fieldOf, rowOf, Coded}
+use Rattle.decode.proofs.Complete.{every-coding-is-read}
 use Rattle.encode.specs.Sending.{anySent, redirectionSent, mayDivertSent, noticeSent, restrictionSent, backwardSent, sent}
 use Rattle.encode.specs.Writing.{written, MessageWritten}
 use Rattle.encode.proofs.Sizes.{length-written, message-short}
@@ -139,8 +140,10 @@ message-written c m old new (Ok n) l w =
     let t : take n new ≡ written c m = ap (take n) (w .1) ∙ take-at (written c m) (drop n old) n (sym (w .0)) in
     let d = length-drop n old in
     let k = length-append (written c m) (drop n old) in
+    let coding : Coded c m (take n new) = subst (λ (l : List ℕ). Coded c m l) (sym t) (written-is-coded c m) in
     record {
-      coded = subst (λ (l : List ℕ). Coded c m l) (sym t) (written-is-coded c m);
+      coded = coding;
+      readBack = every-coding-is-read (take n new) c m coding;
       size = w .0 ∙ length-written c m;
       room = omega (arith, w .0, ap length (w .1));
       rest = ap (drop n) (w .1) ∙ drop-at (written c m) (drop n old) n (sym (w .0));

@@ -14,6 +14,7 @@ use Rattle.isup.specs.declared.message.Message.{Message}
 use Rattle.isup.specs.declared.message.Message.the-variants.{InitialAddress, AddressComplete, CallProgress, Answer, Connect, Release}
 use Rattle.isup.specs.Ranges.{circuitOctets}
 use Rattle.isup.specs.Coding.{Parameter, headOf, variableOf, behind, Coded}
+use Rattle.decode.specs.Messages.{readMessage}
 use Rattle.encode.specs.Sending.{anySent, sent}
 
 -- the octets behind the circuit
@@ -47,9 +48,10 @@ optionalSize (p ∷ ps) = parametersSize (p ∷ ps) + 1
 abbrev pub sizeOf : Message Number → ℕ
 sizeOf m = mandatorySize m + optionalSize (sent m)
 
--- the first n octets code the message and take no more room than it asks for, and what lies behind stays
+-- the first n octets code the message, are read as it and take no more room than it asks for, and what lies behind stays
 pub record AtFront (c : Circuit) (m : Message Number) (old new : List ℕ) (n : ℕ) : Type 0 where
   pub coded : Coded c m (take n new)
+  pub readBack : readMessage (take n new) ≡ Ok (c, m)
   pub size : n ≡ sizeOf m
   pub room : n ≤ length old
   pub rest : drop n new ≡ drop n old
