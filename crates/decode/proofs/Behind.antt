@@ -25,7 +25,7 @@ use Rattle.decode.specs.Optional.{optionalFrom, nothing, repeated, collected, 
 use Rattle.decode.specs.Messages.{variableIn, optionalIn, tailIn}
 use Rattle.decode.proofs.Parts.{withoutPlaces, parts-sound}
 use Rattle.decode.proofs.Fields.{gatheredField}
-use Rattle.decode.proofs.Passed.{not-both, no-answer, Both, both, by-number}
+use Rattle.decode.proofs.Passed.{never, no-answer, Both, both, by-number}
 use Rattle.decode.proofs.Gathers.{carried, nothing-unmet}
 
 -- n octets from a place on, one by one
@@ -85,7 +85,7 @@ some-read r xs at end g e =
     let p = parts-read (partsAt xs end) (λ ps. unlessRepeated (repeated r [] ps) (collected r nothing ps)) g (a .1) in
     let s = parts-sound (length xs + 1) xs end (p .value) (p .first) in
     record {
-      part = record { there = true; parameters = withoutPlaces (p .value); absent = not-both; named = s .1; carries = carried r g (p .value) (p .next) };
+      part = record { there = true; parameters = withoutPlaces (p .value); absent = never; named = s .1; carries = carried r g (p .value) (p .next) };
       pointer = eqb-true (getD xs at 0) (end - at) (a .0);
       octets = s .0;
     }

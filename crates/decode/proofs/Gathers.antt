@@ -27,7 +27,7 @@ use Rattle.decode.specs.Faults.{then}
 use Rattle.decode.specs.Values.{isOctet}
 use Rattle.decode.specs.Parameters.{Part, known}
 use Rattle.decode.specs.Optional.{member, repeated, collected, nothing, octetAt, valueOf, unlessRepeated, with-redirecting, with-original, with-information, with-may-divert, with-announced, with-diversion, with-redirection, with-restriction}
-use Rattle.decode.proofs.Passed.{not-both, not-found, no-answer, value-found, both, by-name}
+use Rattle.decode.proofs.Passed.{never, not-found, no-answer, value-found, both, by-name}
 use Rattle.decode.proofs.ValuesRead.{content-octets, plain-octets, information-octets, diversion-octets, restriction-octets, lone-octet}
 use Rattle.decode.proofs.Parts.{withoutPlaces}
 use Rattle.decode.proofs.Fields.{gatheredField}
@@ -82,7 +82,7 @@ unmet true place o e = not-found place (sym e)
 other : (row : Row) (n m : ℕ) → has row n ≡ true → has row m ≡ false → eqb n m ≡ false
 other row n m k f =
     elim (eqb-tells n m)
-    [ inl t ↦ not-both (sym k ∙ ap (has row) (t .1) ∙ f) | inr t ↦ t .0 ]
+    [ inl t ↦ never (sym k ∙ ap (has row) (t .1) ∙ f) | inr t ↦ t .0 ]
 
 -- nothing stands under the names of the row that are not met yet
 abbrev Unmet : Row → List ℕ → Gathered Number → Type 0

@@ -15,8 +15,9 @@ use Rattle.decode.specs.declared.fault.MessageFault.{MessageFault}
 use Rattle.decode.specs.Faults.{then, orValueFault}
 use Rattle.decode.specs.Values.{andThen}
 
-pub not-both : {X : Type 0} → true ≡ false → X
-not-both e = absurd (let z : _≡_ {A = ℕ} 0 1 = cc in omega arith)
+-- what cannot be
+pub never : {X : Type 0} → true ≡ false → X
+never e = absurd (let z : _≡_ {A = ℕ} 0 1 = cc in omega arith)
 
 pub not-found : {A X : Type 0} (x : A) → None ≡ Some x → X
 not-found x e = absurd (let z : _≡_ {A = ℕ} 0 1 = cc in omega arith)

@@ -1,11 +1,11 @@
 -- Octets that are read as a message are a coding of it.
 use mathlib.Core.Path.{_≡_, refl, sym, ap, _∙_, subst}
 use mathlib.Core.Bool.{Bool, true, false, cond}
-use mathlib.Core.List.{List, [], _∷_, _++_}
+use mathlib.Core.List.{List, [], _∷_}
 use Prim.Native.Nat.{ℕ, _+_, _*_, _/_, _%_, _≤_}
 use native.Mathlib.Omega.{arith}
 use lib.Dec.{leb, ltb, eqb}
-use lib.ListN.{length, getD, drop}
+use lib.ListN.{length, getD}
 use Rattle.std.proofs.shelf.Ways.{tells}
 use Rattle.std.proofs.shelf.Tests.{eqb-true, ltb-false}
 use Rattle.std.specs.declared.option.Option.{Option}
@@ -37,7 +37,7 @@ use Rattle.decode.specs.Messages.{octetIn, exactIn, variableIn, optionalIn, ta
 use Rattle.decode.specs.Reading.{Only-codings-are-read}
 use Rattle.decode.proofs.ValuesRead.{cause-octets, plain-octets}
 use Rattle.decode.proofs.Fields.{gatheredField}
-use Rattle.decode.proofs.Passed.{not-both, no-answer, value-found, both, by-number, by-name}
+use Rattle.decode.proofs.Passed.{never, no-answer, value-found, both, by-number, by-name}
 use Rattle.decode.proofs.Behind.{octetsFrom, one-by-one, BehindRead, tail-read, with-variable}
 
 octet-read : (xs : List ℕ) (at n : ℕ) → octetIn xs at ≡ Ok n → getD xs at 0 ≡ n
@@ -197,7 +197,7 @@ release xs m kind e =
     (record {
       gathered = o .value;
       head = cc;
-      fields = λ n k. not-both (sym k);
+      fields = λ n k. never (sym k);
       rest = with-variable row.Bare xs 3 (v .value) _ (o .value) (v .first) (o .first)
           (cause-octets (v .value) (c .value) (value-found (causeFrom (v .value)) 5 (c .value) (c .first)));
     })
@@ -225,6 +225,10 @@ coded : (xs : List ℕ) (c : Circuit) (m : Message Number) → 3 ≤ length xs �
 coded xs c m long short circuit t =
     let part = t .rest .part in
     let inside = t .rest .within in
+    let all = one-by-one 2 0 xs (omega arith) in
+    let body = one-by-one (length (headOf m)) 2 xs (omega arith) in
+    let head = t .head in
+    let rest = t .rest .octets in
     record {
       short = short;
       there = part .there;
@@ -232,9 +236,7 @@ coded xs c m long short circuit t =
       absent = part .absent;
       named = part .named;
       carries = λ n k. part .carries n k ∙ t .fields n k;
-      same = one-by-one 2 0 xs (omega arith) ∙ ap (λ (l : List ℕ). l ++ drop 2 xs) circuit
-          ∙ ap (λ (l : List ℕ). circuitOctets c ++ l)
-            (one-by-one (length (headOf m)) 2 xs (omega arith) ∙ ap (λ (l : List ℕ). l ++ drop (2 + length (headOf m)) xs) (t .head) ∙ ap (λ (l : List ℕ). headOf m ++ l) (t .rest .octets));
+      same = cc;
     }
 
 pub only-codings-are-read : Only-codings-are-read
