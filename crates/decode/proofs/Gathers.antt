@@ -12,7 +12,7 @@ use Rattle.std.proofs.shelf.Lists.{append-nil}
 use Rattle.std.specs.declared.option.Option.{Option}
 use Rattle.std.specs.declared.option.Option.the-variants.{Some, None}
 use Rattle.std.specs.declared.result.Result.{Result}
-use Rattle.std.specs.declared.result.Result.the-variants.{Ok, Err}
+use Rattle.std.specs.declared.result.Result.the-variants.{Ok}
 use Rattle.numbers.specs.declared.number.Number.{Number}
 use Rattle.numbers.specs.Digits.{content, plain}
 use Rattle.numbers.proofs.Contents.{passed}
