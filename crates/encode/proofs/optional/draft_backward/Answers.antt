@@ -1,13 +1,21 @@
 use mathlib.Core.Path.{_≡_, sym, ap, _∙_}
-use mathlib.Core.Bool.{Bool, true}
+use mathlib.Core.Bool.{Bool, true, false}
 use mathlib.Core.List.{[], _∷_, _++_}
 use Rattle.std.specs.declared.option.Option.the-variants.{None}
 use Rattle.numbers.specs.Drafts.{drafted}
 use Rattle.numbers.proofs.Cuts.{cut-more}
 use Rattle.isup.specs.Coding.{encoded, behind}
 use Rattle.encode.specs.Sending.{anySent, mayDivertSent, noticeSent, restrictionSent, backwardSent}
-use Rattle.encode.proofs.Adds.{added-two, added-three, encoded-three}
+use Rattle.encode.proofs.Adds.{added-same, added-two, added-three, encoded-three}
 use Rattle.encode.proofs.optional.draft_backward.Needs as need
+
+-- nothing is sent: pointer 00 and no optional part
+pub returns-then-not-sends-any : need.returns-then-not-sends-any
+returns-then-not-sends-any c =
+    let b = c .args .backward .now in
+    let none : anySent (backwardSent b) ≡ false = sym (c .sends-any .ensures) ∙ c .if-not-sends-any .taken in
+    added-same (drafted (c .args .draft .now)) (drafted (c .push .last .self)) (0 ∷ []) _ (c .push .ensures)
+    (ap (λ (t : Bool). behind None t (backwardSent b)) (sym none))
 
 pub returns : need.returns
 returns c =
