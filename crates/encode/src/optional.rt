@@ -55,6 +55,7 @@ pub(crate) fn draft_redirection(redirection: Option<Redirection<Number>>, draft:
     draft.push_all(&[0x13, 2, indicator, packed, 0x00]);
 }
 
+// That a diversion may occur.
 fn draft_may_divert(may_divert: bool, draft: &mut Draft)
     ensures { λ _. ⌜ drafted (now (draft .exit)) ≡ cut (drafted (now (draft .entry)) ++ encoded (mayDivertSent «may_divert»)) ⌝ }
 {
@@ -63,6 +64,7 @@ fn draft_may_divert(may_divert: bool, draft: &mut Draft)
     }
 }
 
+// The notice of a diversion: generic notification, call diversion information and redirection number.
 fn draft_notice(notice: Option<Notice<Number>>, draft: &mut Draft)
     ensures { λ _. ⌜ drafted (now (draft .exit)) ≡ cut (drafted (now (draft .entry)) ++ encoded (noticeSent notice)) ⌝ }
 {
@@ -77,6 +79,7 @@ fn draft_notice(notice: Option<Notice<Number>>, draft: &mut Draft)
     draft_party(0x0C, &party, draft);
 }
 
+// Whether the number that is reached may be shown.
 fn draft_restriction(restriction: Option<Restriction>, draft: &mut Draft)
     ensures { λ _. ⌜ drafted (now (draft .exit)) ≡ cut (drafted (now (draft .entry)) ++ encoded (restrictionSent restriction)) ⌝ }
 {
@@ -85,6 +88,7 @@ fn draft_restriction(restriction: Option<Restriction>, draft: &mut Draft)
     }
 }
 
+// Whether there is anything to send.
 fn sends_any(backward: &Backward<Number>) -> bool
     ensures { λ r. ⌜ r ≡ anySent (backwardSent (now (backward .entry))) ⌝ }
 {
