@@ -24,7 +24,11 @@ fn information(raw: RawInformation) -> Option<RedirectionInformation>
     let indicator = Indicator::from_code(raw.indicator)?;
     let count = Count::new(raw.count)?;
     let reason = Reason::from_code(raw.reason)?;
-    Some(RedirectionInformation { indicator, count, reason })
+    Some(RedirectionInformation {
+        indicator,
+        count,
+        reason,
+    })
 }
 
 // All three or none.
@@ -32,10 +36,22 @@ fn redirection(raw: RawRedirection) -> Option<Option<Redirection<Number>>>
     ensures { λ r. ⌜ r ≡ redirectionIn raw ⌝ }
 {
     match raw {
-        RawRedirection { redirecting: None, original: None, information: None } => Some(None),
-        RawRedirection { redirecting: Some(redirecting), original: Some(original), information: Some(raw) } => {
+        RawRedirection {
+            redirecting: None,
+            original: None,
+            information: None,
+        } => Some(None),
+        RawRedirection {
+            redirecting: Some(redirecting),
+            original: Some(original),
+            information: Some(raw),
+        } => {
             let information = information(raw)?;
-            Some(Some(Redirection { redirecting, original, information }))
+            Some(Some(Redirection {
+                redirecting,
+                original,
+                information,
+            }))
         }
         _ => None,
     }
@@ -46,7 +62,10 @@ fn diversion(raw: RawDiversion) -> Option<DiversionInformation>
 {
     let notification = Notification::from_code(raw.notification)?;
     let reason = Reason::from_code(raw.reason)?;
-    Some(DiversionInformation { notification, reason })
+    Some(DiversionInformation {
+        notification,
+        reason,
+    })
 }
 
 // All three or none.
@@ -54,10 +73,21 @@ fn notice(raw: RawNotice) -> Option<Option<Notice<Number>>>
     ensures { λ r. ⌜ r ≡ noticeIn raw ⌝ }
 {
     match raw {
-        RawNotice { announced: false, diversion: None, number: None } => Some(None),
-        RawNotice { announced: true, diversion: Some(raw), number: Some(number) } => {
+        RawNotice {
+            announced: false,
+            diversion: None,
+            number: None,
+        } => Some(None),
+        RawNotice {
+            announced: true,
+            diversion: Some(raw),
+            number: Some(number),
+        } => {
             let information = diversion(raw)?;
-            Some(Some(Notice { information, number }))
+            Some(Some(Notice {
+                information,
+                number,
+            }))
         }
         _ => None,
     }
@@ -81,5 +111,10 @@ pub(crate) fn optional(parts: &Parts) -> Option<Optional>
     let redirection = redirection(parts.redirection)?;
     let notice = notice(parts.notice)?;
     let restriction = restriction(parts.restriction)?;
-    Some(Optional { redirection, may_divert: parts.may_divert, notice, restriction })
+    Some(Optional {
+        redirection,
+        may_divert: parts.may_divert,
+        notice,
+        restriction,
+    })
 }

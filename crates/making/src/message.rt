@@ -21,17 +21,33 @@ use numbers::refusal::Refusal;
 fn backward(optional: Optional) -> Option<Backward<Number>>
     ensures { λ r. ⌜ r ≡ backwardIn optional ⌝ }
 {
-    let Optional { redirection: None, may_divert, notice, restriction } = optional else {
+    let Optional {
+        redirection: None,
+        may_divert,
+        notice,
+        restriction,
+    } = optional
+    else {
         return None;
     };
-    Some(Backward { may_divert, notice, restriction })
+    Some(Backward {
+        may_divert,
+        notice,
+        restriction,
+    })
 }
 
 // The restriction, if any, and no other optional part.
 fn restriction_alone(optional: Optional) -> Option<Option<Restriction>>
     ensures { λ r. ⌜ r ≡ restrictionAlone optional ⌝ }
 {
-    let Optional { redirection: None, may_divert: false, notice: None, restriction } = optional else {
+    let Optional {
+        redirection: None,
+        may_divert: false,
+        notice: None,
+        restriction,
+    } = optional
+    else {
         return None;
     };
     Some(restriction)
@@ -40,10 +56,23 @@ fn restriction_alone(optional: Optional) -> Option<Option<Restriction>>
 fn initial_address(mandatory: Mandatory, optional: Optional) -> Option<Message>
     ensures { λ r. ⌜ r ≡ initialIn mandatory optional ⌝ }
 {
-    let Mandatory { service: Some(service), called: Some(called), status: None, event: None, cause: None } = mandatory else {
+    let Mandatory {
+        service: Some(service),
+        called: Some(called),
+        status: None,
+        event: None,
+        cause: None,
+    } = mandatory
+    else {
         return None;
     };
-    let Optional { redirection, may_divert: false, notice: None, restriction: None } = optional else {
+    let Optional {
+        redirection,
+        may_divert: false,
+        notice: None,
+        restriction: None,
+    } = optional
+    else {
         return None;
     };
     let service = Service::from_code(service)?;
@@ -53,7 +82,14 @@ fn initial_address(mandatory: Mandatory, optional: Optional) -> Option<Message>
 fn address_complete(mandatory: Mandatory, optional: Optional) -> Option<Message>
     ensures { λ r. ⌜ r ≡ completeIn mandatory optional ⌝ }
 {
-    let Mandatory { service: None, called: None, status: Some(status), event: None, cause: None } = mandatory else {
+    let Mandatory {
+        service: None,
+        called: None,
+        status: Some(status),
+        event: None,
+        cause: None,
+    } = mandatory
+    else {
         return None;
     };
     let status = LineStatus::from_code(status)?;
@@ -64,7 +100,14 @@ fn address_complete(mandatory: Mandatory, optional: Optional) -> Option<Message>
 fn call_progress(mandatory: Mandatory, optional: Optional) -> Option<Message>
     ensures { λ r. ⌜ r ≡ progressIn mandatory optional ⌝ }
 {
-    let Mandatory { service: None, called: None, status: None, event: Some(event), cause: None } = mandatory else {
+    let Mandatory {
+        service: None,
+        called: None,
+        status: None,
+        event: Some(event),
+        cause: None,
+    } = mandatory
+    else {
         return None;
     };
     let event = Event::from_code(event)?;
@@ -76,7 +119,14 @@ fn call_progress(mandatory: Mandatory, optional: Optional) -> Option<Message>
 fn connected(mandatory: Mandatory, optional: Optional) -> Option<Option<Restriction>>
     ensures { λ r. ⌜ r ≡ connectedIn mandatory optional ⌝ }
 {
-    let Mandatory { service: None, called: None, status: None, event: None, cause: None } = mandatory else {
+    let Mandatory {
+        service: None,
+        called: None,
+        status: None,
+        event: None,
+        cause: None,
+    } = mandatory
+    else {
         return None;
     };
     restriction_alone(optional)
@@ -85,7 +135,14 @@ fn connected(mandatory: Mandatory, optional: Optional) -> Option<Option<Restrict
 fn release(mandatory: Mandatory, optional: Optional) -> Option<Message>
     ensures { λ r. ⌜ r ≡ releaseIn mandatory optional ⌝ }
 {
-    let Mandatory { service: None, called: None, status: None, event: None, cause: Some(cause) } = mandatory else {
+    let Mandatory {
+        service: None,
+        called: None,
+        status: None,
+        event: None,
+        cause: Some(cause),
+    } = mandatory
+    else {
         return None;
     };
     let None = restriction_alone(optional)? else {

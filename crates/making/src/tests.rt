@@ -24,27 +24,64 @@ fn bare(kind: u8) -> Parts {
         call: 63,
         leg: 5,
         kind,
-        mandatory: Mandatory { service: None, called: None, status: None, event: None, cause: None },
-        redirection: RawRedirection { redirecting: None, original: None, information: None },
+        mandatory: Mandatory {
+            service: None,
+            called: None,
+            status: None,
+            event: None,
+            cause: None,
+        },
+        redirection: RawRedirection {
+            redirecting: None,
+            original: None,
+            information: None,
+        },
         may_divert: false,
-        notice: RawNotice { announced: false, diversion: None, number: None },
+        notice: RawNotice {
+            announced: false,
+            diversion: None,
+            number: None,
+        },
         restriction: None,
     }
 }
 
-fn redirection(redirecting: bool, original: bool, information: bool, number: Number) -> RawRedirection {
-    let party = Party { number, restricted: true };
+fn redirection(
+    redirecting: bool,
+    original: bool,
+    information: bool,
+    number: Number,
+) -> RawRedirection {
+    let party = Party {
+        number,
+        restricted: true,
+    };
     RawRedirection {
         redirecting: if redirecting { Some(party) } else { None },
         original: if original { Some(party) } else { None },
-        information: if information { Some(RawInformation { indicator: 6, count: 5, reason: 6 }) } else { None },
+        information: if information {
+            Some(RawInformation {
+                indicator: 6,
+                count: 5,
+                reason: 6,
+            })
+        } else {
+            None
+        },
     }
 }
 
 fn notice(announced: bool, diversion: bool, told: bool, number: Number) -> RawNotice {
     RawNotice {
         announced,
-        diversion: if diversion { Some(RawDiversion { notification: 3, reason: 6 }) } else { None },
+        diversion: if diversion {
+            Some(RawDiversion {
+                notification: 3,
+                reason: 6,
+            })
+        } else {
+            None
+        },
         number: if told { Some(number) } else { None },
     }
 }
