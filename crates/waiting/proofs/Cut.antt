@@ -1,0 +1,65 @@
+-- A list cut at its end, and one element taken out of it.
+use mathlib.Core.Path.{_≡_, refl, sym, ap, _∙_}
+use mathlib.Core.List.{List, [], _∷_, _++_}
+use mathlib.Core.Logic.{_⊎_, inl, inr}
+use native.Mathlib.Omega.{arith}
+use Prim.Native.Nat.{ℕ, zero, suc, min, _+_, _-_, _<_, _≤_}
+use lib.ListN.{length, take, drop}
+use lib.Seq.{paste}
+use denote.Ref.{RefT, now}
+use Rattle.std.specs.Options.{Cases, mapped}
+use Rattle.std.specs.Places.{At}
+use Rattle.std.specs.declared.option.Option.{Option}
+use Rattle.std.specs.Finite.{nth}
+use Rattle.std.specs.Holes.{removed}
+use Rattle.std.specs.declared.option.Option.the-variants.{Some, None}
+use Rattle.std.proofs.shelf.Edits.{take-paste}
+use Rattle.std.proofs.shelf.Lists.{drop-take, length-drop, length-take, take-all, take-take}
+use Rattle.std.proofs.shelf.Maps.{nth-getD, nth-past}
+use Rattle.std.proofs.shelf.Tests.{cases-lt}
+
+-- past the end a cut takes everything
+pub take-min : {X : Type 0} (n held : ℕ) (xs : List X) → n ≡ min held (length xs) → take n xs ≡ take held xs
+take-min n held xs e =
+    elim (cases-lt held (length xs)) [
+      inl h ↦ ap (λ k. take k xs) (omega arith)
+    | inr h ↦ take-all n xs (omega arith) ∙ sym (take-all held xs h) ]
+
+-- a copy of what a slice lends at a place
+pub copied-nth :
+    {X : Type 0} (xs : List X) (i : ℕ) (o : Option (RefT X)) →
+    Cases o (length xs ≤ i) (λ x. (i < length xs) × At (λ y. x .now ≡ y) xs i) → mapped now o ≡ nth xs i
+copied-nth xs i None h = sym (nth-past xs i h)
+copied-nth xs i (Some x) h = sym (nth-getD xs i (x .now) (h .0) ∙ ap Some (sym (h .1 (x .now))))
+
+-- where there is an element, the place is within the list
+pub nth-within : {X : Type 0} (xs : List X) (i : ℕ) (x : X) → Some x ≡ nth xs i → i < length xs
+nth-within [] i x e = absurd (let z : _≡_ {A = ℕ} 0 1 = cc in omega arith)
+nth-within (y ∷ ys) zero x e = omega arith
+nth-within (y ∷ ys) (suc i) x e = let h = nth-within ys i x e in omega arith
+
+-- where there is none, none is removed
+pub removed-none : {X : Type 0} (xs : List X) (i : ℕ) → None ≡ nth xs i → removed xs i ≡ xs
+removed-none [] zero e = refl
+removed-none [] (suc i) e = refl
+removed-none (y ∷ ys) zero e = absurd (let z : _≡_ {A = ℕ} 0 1 = cc in omega arith)
+removed-none (y ∷ ys) (suc i) e = ap (λ l. y ∷ l) (removed-none ys i e)
+
+-- the elements behind place i moved up by one: the list without that place's
+pub closed-up :
+    {X : Type 0} (d : List X) (i n held : ℕ) → n ≡ length (take held d) → i < n →
+    take (n - 1) (paste d i (drop (i + 1) d) (n - (i + 1))) ≡ removed (take held d) i
+closed-up d i n held e h =
+    let l = length-take held d in
+    let m = n - (i + 1) in
+    let inside : m ≤ length (drop (i + 1) d) = simp length-drop (omega arith) in
+    let front : n - 1 ≡ i + m = omega arith in
+    let whole : n ≡ suc i + m = omega arith in
+    let next : i + 1 ≡ suc i = omega arith in
+    let rest : drop (suc i) (take n d) ≡ take m (drop (i + 1) d) =
+        ap (λ k. drop (suc i) (take k d)) whole ∙ drop-take (suc i) m d ∙ ap (λ k. take m (drop k d)) (sym next) in
+    ap (λ k. take k (paste d i (drop (i + 1) d) m)) front
+    ∙ take-paste d i (drop (i + 1) d) m (omega arith) inside
+    ∙ ap (λ z. take i d ++ z) (sym rest)
+    ∙ ap (λ z. z ++ drop (suc i) (take n d)) (sym (take-take i n d (omega arith)))
+    ∙ ap (λ z. removed z i) (take-min n held d (omega arith))

@@ -1,0 +1,25 @@
+-- What a waiting list means, and what is found in a list.
+use mathlib.Core.Bool.{Bool, cond}
+use mathlib.Core.List.{List, [], _∷_}
+use Prim.Native.Nat.{ℕ, _+_}
+use lib.ListN.{length, take}
+use Rattle.std.specs.declared.option.Option.{Option}
+use Rattle.std.specs.declared.option.Option.the-variants.{Some, None}
+use Rattle.waiting.specs.declared.WaitingList.{WaitingList}
+
+-- the elements that wait, the earliest first
+abbrev pub items : {T : Type 0} → WaitingList T → List T
+items w = take (w .held) (w .slots .now)
+
+-- how many elements there is room for in all
+abbrev pub places : {T : Type 0} → WaitingList T → ℕ
+places w = length (w .slots .now)
+
+-- the place of the first that fits, where the list's own places count from n
+abbrev pub firstFrom : {X : Type 0} → (X → Bool) → ℕ → List X → Option ℕ
+firstFrom p n [] = None
+firstFrom p n (x ∷ xs) = cond (p x) (Some n) (firstFrom p (n + 1) xs)
+
+-- the place of the first that fits, from 0
+abbrev pub firstFit : {X : Type 0} → (X → Bool) → List X → Option ℕ
+firstFit p xs = firstFrom p 0 xs
