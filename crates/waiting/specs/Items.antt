@@ -23,3 +23,13 @@ firstFrom p n (x ∷ xs) = cond (p x) (Some n) (firstFrom p (n + 1) xs)
 -- the place of the first that fits, from 0
 abbrev pub firstFit : {X : Type 0} → (X → Bool) → List X → Option ℕ
 firstFit p xs = firstFrom p 0 xs
+
+-- the first that fits
+abbrev pub earliest : {X : Type 0} → (X → Bool) → List X → Option X
+earliest p [] = None
+earliest p (x ∷ xs) = cond (p x) (Some x) (earliest p xs)
+
+-- the list without the first that fits
+abbrev pub withoutEarliest : {X : Type 0} → (X → Bool) → List X → List X
+withoutEarliest p [] = []
+withoutEarliest p (x ∷ xs) = cond (p x) xs (x ∷ withoutEarliest p xs)

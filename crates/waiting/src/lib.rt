@@ -9,7 +9,7 @@ ghost use Rattle.std.specs.Finite.{nth};
 ghost use Rattle.std.specs.Holes.{removed};
 ghost use Rattle.std.specs.Results.{isOk};
 ghost use Rattle.std.specs.shelf.Lists.{countBy};
-ghost use Rattle.waiting.specs.Items.{items, places, firstFit};
+ghost use Rattle.waiting.specs.Items.{items, places, firstFit, earliest, withoutEarliest};
 
 // The list is the front of the memory. What stands in the places behind it is open.
 #[derive(Drop)]
@@ -120,5 +120,23 @@ impl<'a, T: Copy> WaitingList<'a, T> {
         self.slots.copy_within(i + 1..held, i);
         self.held = held - 1;
         Some(taken)
+    }
+
+    // The first element that fits a question.
+    pub fn first<Q: Question<T>>(&self, question: &Q) -> Option<T>
+        ensures { λ r. ⌜ r ≡ earliest (Q·Question .fits (now (question .entry))) (items (now (self .entry))) ⌝ }
+    {
+        let i = self.find(question)?;
+        self.get(i)
+    }
+
+    // Takes the first element that fits a question out; the others keep their order.
+    pub fn take_first<Q: Question<T>>(&mut self, question: &Q) -> Option<T>
+        ensures answer { λ r. ⌜ r ≡ earliest (Q·Question .fits (now (question .entry))) (items (now (self .entry))) ⌝ }
+        ensures after { λ _. ⌜ items (now (self .exit)) ≡ withoutEarliest (Q·Question .fits (now (question .entry))) (items (now (self .entry))) ⌝ }
+        ensures room { λ _. ⌜ places (now (self .exit)) ≡ places (now (self .entry)) ⌝ }
+    {
+        let i = self.find(question)?;
+        self.take(i)
     }
 }
