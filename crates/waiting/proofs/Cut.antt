@@ -1,5 +1,6 @@
 -- A list cut at its end, and one element taken out of it.
 use mathlib.Core.Path.{_≡_, refl, sym, ap, _∙_}
+use mathlib.Core.Bool.{true, false}
 use mathlib.Core.List.{List, [], _∷_, _++_}
 use mathlib.Core.Logic.{_⊎_, inl, inr}
 use native.Mathlib.Omega.{arith}
@@ -17,6 +18,8 @@ use Rattle.std.proofs.shelf.Edits.{take-paste}
 use Rattle.std.proofs.shelf.Lists.{drop-take, length-drop, length-take, take-all, take-take}
 use Rattle.std.proofs.shelf.Maps.{nth-getD, nth-past}
 use Rattle.std.proofs.shelf.Tests.{cases-lt}
+use Rattle.std.proofs.shelf.Ways.{tells}
+use Rattle.waiting.specs.Items.{isFull}
 
 -- past the end a cut takes everything
 pub take-min : {X : Type 0} (n held : ℕ) (xs : List X) → n ≡ min held (length xs) → take n xs ≡ take held xs
@@ -24,6 +27,13 @@ take-min n held xs e =
     elim (cases-lt held (length xs)) [
       inl h ↦ ap (λ k. take k xs) (omega arith)
     | inr h ↦ take-all n xs (omega arith) ∙ sym (take-all held xs h) ]
+
+-- a cut within the memory leaves room, and one at its end leaves none
+pub cut-room : {X : Type 0} (held : ℕ) (xs : List X) → held < length xs → isFull (length xs) (take held xs) ≡ false
+cut-room held xs h = let n = length-take held xs in grind (arith, tells)
+
+pub cut-full : {X : Type 0} (held : ℕ) (xs : List X) → length xs ≤ held → isFull (length xs) (take held xs) ≡ true
+cut-full held xs h = let n = length-take held xs in grind (arith, tells)
 
 -- a copy of what a slice lends at a place
 pub copied-nth :

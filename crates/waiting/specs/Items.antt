@@ -1,7 +1,8 @@
 -- What a waiting list means, and what is found in a list.
 use mathlib.Core.Bool.{Bool, cond}
-use mathlib.Core.List.{List, [], _∷_}
+use mathlib.Core.List.{List, [], _∷_, _++_}
 use Prim.Native.Nat.{ℕ, _+_}
+use lib.Dec.{eqb}
 use lib.ListN.{length, take}
 use Rattle.std.specs.declared.option.Option.{Option}
 use Rattle.std.specs.declared.option.Option.the-variants.{Some, None}
@@ -14,6 +15,14 @@ items w = take (w .held) (w .slots .now)
 -- how many elements there is room for in all
 abbrev pub places : {T : Type 0} → WaitingList T → ℕ
 places w = length (w .slots .now)
+
+-- whether as many are held as there is room for
+abbrev pub isFull : {X : Type 0} → ℕ → List X → Bool
+isFull room xs = eqb (length xs) room
+
+-- one more at the end, where there is room
+abbrev pub added : {X : Type 0} → ℕ → List X → X → List X
+added room xs x = cond (isFull room xs) xs (xs ++ (x ∷ []))
 
 -- the place of the first that fits, where the list's own places count from n
 abbrev pub firstFrom : {X : Type 0} → (X → Bool) → ℕ → List X → Option ℕ

@@ -1,15 +1,14 @@
 // A list of elements of one kind, kept in their order in lent memory.
-ghost use mathlib.Core.Bool.{Bool, cond};
-ghost use mathlib.Core.List.{[], _∷_, _++_};
+ghost use mathlib.Core.Bool.{Bool};
+ghost use mathlib.Core.List.{[]};
 ghost use mathlib.Core.Path.{_≡_};
 ghost use Prim.Native.Nat.{min};
-ghost use lib.Dec.{ltb};
 ghost use lib.ListN.{length};
 ghost use Rattle.std.specs.Finite.{nth};
 ghost use Rattle.std.specs.Holes.{removed};
-ghost use Rattle.std.specs.Results.{isOk};
+ghost use Rattle.std.specs.Results.{isErr};
 ghost use Rattle.std.specs.shelf.Lists.{countBy};
-ghost use Rattle.waiting.specs.Items.{items, places, firstFit, earliest, withoutEarliest};
+ghost use Rattle.waiting.specs.Items.{items, places, isFull, added, firstFit, earliest, withoutEarliest};
 
 // The list is the front of the memory. What stands in the places behind it is open.
 #[derive(Drop)]
@@ -52,7 +51,7 @@ impl<'a, T: Copy> WaitingList<'a, T> {
     pub fn len(&self) -> usize
         ensures { λ r. ⌜ r ≡ length (items (now (self .entry))) ⌝ }
     {
-        self.held.min(self.slots.len())
+        self.elements().len()
     }
 
     // How many elements there is room for in all.
@@ -64,8 +63,8 @@ impl<'a, T: Copy> WaitingList<'a, T> {
 
     // Adds an element at the end.
     pub fn put(&mut self, x: T) -> Result<(), Full>
-        ensures answer { λ r. ⌜ isOk r ≡ ltb (length (items (now (self .entry)))) (places (now (self .entry))) ⌝ }
-        ensures after { λ r. ⌜ items (now (self .exit)) ≡ cond (isOk r) (items (now (self .entry)) ++ (x ∷ [])) (items (now (self .entry))) ⌝ }
+        ensures answer { λ r. ⌜ isErr r ≡ isFull (places (now (self .entry))) (items (now (self .entry))) ⌝ }
+        ensures after { λ _. ⌜ items (now (self .exit)) ≡ added (places (now (self .entry))) (items (now (self .entry))) x ⌝ }
         ensures room { λ _. ⌜ places (now (self .exit)) ≡ places (now (self .entry)) ⌝ }
     {
         if self.held >= self.slots.len() {
