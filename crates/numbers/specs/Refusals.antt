@@ -1,8 +1,9 @@
 -- The number of each refusal.
 use Prim.Native.Nat.{ℕ}
 use Rattle.numbers.specs.declared.refusal.Refusal.{Refusal}
-use Rattle.numbers.specs.declared.refusal.Refusal.the-variants.{TooShort, OutOfRange}
+use Rattle.numbers.specs.declared.refusal.Refusal.the-variants.{TooShort, OutOfRange, Full}
 
 abbrev pub refusalNumber : Refusal → ℕ
 refusalNumber TooShort = 9
 refusalNumber OutOfRange = 10
+refusalNumber Full = 15

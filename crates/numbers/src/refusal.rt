@@ -8,6 +8,8 @@ pub enum Refusal {
     TooShort,
     // A part is outside its range, does not belong there, or lacks its companions.
     OutOfRange,
+    // As many wait on the carrier as it has room for.
+    Full,
 }
 
 impl Refusal {
@@ -18,6 +20,7 @@ impl Refusal {
         match self {
             Refusal::TooShort => 9,
             Refusal::OutOfRange => 10,
+            Refusal::Full => 15,
         }
     }
 }

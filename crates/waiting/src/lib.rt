@@ -2,7 +2,7 @@
 ghost use mathlib.Core.Bool.{Bool};
 ghost use mathlib.Core.List.{[]};
 ghost use mathlib.Core.Path.{_≡_};
-ghost use Prim.Native.Nat.{min};
+ghost use Prim.Native.Nat.{_+_, min};
 ghost use lib.ListN.{length};
 ghost use Rattle.std.specs.Finite.{nth};
 ghost use Rattle.std.specs.Holes.{removed};
@@ -61,7 +61,14 @@ impl<'a, T: Copy> WaitingList<'a, T> {
         self.slots.len()
     }
 
-    // Adds an element at the end.
+    // The free places: with the elements held they make up the capacity.
+    pub fn free(&self) -> usize
+        ensures { λ r. ⌜ r + length (items (now (self .entry))) ≡ places (now (self .entry)) ⌝ }
+    {
+        self.capacity() - self.len()
+    }
+
+    // Adds an element at the end; refused exactly when the list is full.
     pub fn put(&mut self, x: T) -> Result<(), Full>
         ensures answer { λ r. ⌜ isErr r ≡ isFull (places (now (self .entry))) (items (now (self .entry))) ⌝ }
         ensures after { λ _. ⌜ items (now (self .exit)) ≡ added (places (now (self .entry))) (items (now (self .entry))) x ⌝ }
