@@ -3,3 +3,6 @@ pub mod carrier;
 pub mod moving;
 pub mod question;
 pub mod record;
+
+#[cfg(test)]
+mod tests;

@@ -146,3 +146,6 @@ impl<'a, T: Copy> WaitingList<'a, T> {
         self.take(i)
     }
 }
+
+#[cfg(test)]
+mod tests;
