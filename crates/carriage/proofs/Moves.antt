@@ -47,7 +47,8 @@ nothing-by :
 nothing-by p y ys true t q ih = absurd (let z : _≡_ {A = ℕ} 0 1 = cc in omega arith)
 nothing-by p y ys false t q ih = record {
   kept = ap (λ b. cond b (y ∷ kept-by p ys) (kept-by p ys)) t ∙ ih q .kept;
-  whole = ap (λ b. cond b ys (y ∷ withoutEarliest p ys)) t ∙ ap (λ l. y ∷ l) (ih q .whole) }
+  whole = ap (λ b. cond b ys (y ∷ withoutEarliest p ys)) t ∙ ap (λ l. y ∷ l) (ih q .whole);
+}
 
 nothing : {X : Type 0} (p : X → Bool) (xs : List X) → None ≡ earliest p xs → Nothing p xs
 nothing p [] q = record { kept = refl; whole = refl }

@@ -3,6 +3,5 @@ pub mod carrier;
 pub mod moving;
 pub mod question;
 pub mod record;
-
 #[cfg(test)]
 mod tests;

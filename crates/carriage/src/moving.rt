@@ -9,7 +9,12 @@ use numbers::refusal::Refusal;
 
 // Moves what waits from one exchange to another onto a second carrier, in its order, while that has room.
 // Refused where some are left for want of room.
-pub fn move_all<S: Carrier, T: Carrier>(source: &mut S, target: &mut T, from: Exchange, to: Exchange) -> Result<(), Refusal>
+pub fn move_all<S: Carrier, T: Carrier>(
+    source: &mut S,
+    target: &mut T,
+    from: Exchange,
+    to: Exchange,
+) -> Result<(), Refusal>
     ensures answer { λ r. ⌜ r ≡ moveAnswer (earliest (between from to) (S·Carrier .waiting (now (source .exit)))) ⌝ }
     ensures left { λ _. ⌜ S·Carrier .waiting (now (source .exit)) ≡ withoutFirst (between from to) (freeOf (T·Carrier .capacity (now (target .entry))) (T·Carrier .waiting (now (target .entry)))) (S·Carrier .waiting (now (source .entry))) ⌝ }
     ensures moved { λ _. ⌜ T·Carrier .waiting (now (target .exit)) ≡ withFirst (between from to) (freeOf (T·Carrier .capacity (now (target .entry))) (T·Carrier .waiting (now (target .entry)))) (S·Carrier .waiting (now (source .entry))) (T·Carrier .waiting (now (target .entry))) ⌝ }

@@ -28,7 +28,9 @@ impl<'a> RecordCarrier<'a> {
         ensures empty { λ r. ⌜ items (r .list) ≡ [] ⌝ }
         ensures room { λ r. ⌜ places (r .list) ≡ min 4096 (length (now (slots .entry))) ⌝ }
     {
-        RecordCarrier { list: WaitingList::new(slots, MOST) }
+        RecordCarrier {
+            list: WaitingList::new(slots, MOST),
+        }
     }
 }
 

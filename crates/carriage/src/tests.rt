@@ -20,7 +20,13 @@ fn exchange(value: u8) -> Result<Exchange, Fail> {
 fn release(from: Exchange, to: Exchange, call: u8) -> Result<Envelope, Fail> {
     let circuit = Circuit::new(call, 1).ok_or("no circuit")?;
     let cause = Cause::new(16).ok_or("no cause")?;
-    Ok(Envelope { from, to, way: Way::Back, circuit, message: Message::Release(cause) })
+    Ok(Envelope {
+        from,
+        to,
+        way: Way::Back,
+        circuit,
+        message: Message::Release(cause),
+    })
 }
 
 fn call_of(e: Option<Envelope>) -> Option<u8> {

@@ -38,7 +38,7 @@ one-by-one zero at xs h = ap (λ (m : ℕ). drop m xs) (let z : at ≡ at + 0 = 
 one-by-one (suc n) at xs h =
     drop-more xs at 0 (omega arith)
     ∙ ap (λ (l : List ℕ). getD xs at 0 ∷ l)
-      (one-by-one n (at + 1) xs (omega arith) ∙ ap (λ (m : ℕ). octetsFrom n (at + 1) xs ++ drop m xs) (let z : at + 1 + n ≡ at + suc n = omega arith in z))
+    (one-by-one n (at + 1) xs (omega arith) ∙ ap (λ (m : ℕ). octetsFrom n (at + 1) xs ++ drop m xs) (let z : at + 1 + n ≡ at + suc n = omega arith in z))
 
 -- an optional part, or none, that carries what was gathered
 pub record Carrier (r : Row) (g : Gathered Number) : Type 0 where

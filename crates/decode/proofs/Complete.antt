@@ -246,7 +246,7 @@ octets-read c m here qs h k =
     cond-false (ltb (length xs) 3) _ _ (let z : ltb (length xs) 3 ≡ false = grind (arith, tells) in z)
     ∙ cond-false (ltb 255 (length xs)) _ _ (let z : ltb 255 (length xs) ≡ false = grind (arith, tells) in z)
     ∙ then-ok (orValueFault (circuitFrom (getD xs 0 0) (getD xs 1 0)) 0) _ c _ (ap (λ o. orValueFault o 0) (circuit-read c))
-      (then-ok (messageIn xs) _ m _ (message-read c here qs m k) refl)
+    (then-ok (messageIn xs) _ m _ (message-read c here qs m k) refl)
 
 pub every-coding-is-read : Every-coding-is-read
 every-coding-is-read octets c m k =

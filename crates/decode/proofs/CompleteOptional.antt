@@ -223,19 +223,21 @@ record First (row : Row) (names : List ℕ) (t : Gathered Number) (q : Parameter
 first : (row : Row) (names : List ℕ) (t : Gathered Number) (q : Parameter) (qs : List Parameter) → has row (q .0) ≡ true → Left row names t (q ∷ qs) → First row names t q qs
 first row names t q qs k h =
     let a : q .1 ∷ contents (q .0) qs ≡ cond (member (q .0) names) [] (gatheredField t (q .0)) =
-        sym (cond-true (eqb (q .0) (q .0)) _ _ (eq-eqb (q .0) (q .0) refl)) ∙ h (q .0) k in
-    elim (cases-bool (member (q .0) names))
-    [ inl m ↦ clash (a ∙ cond-true (member (q .0) names) _ _ m)
-    | inr m ↦
-      (let b : q .1 ∷ contents (q .0) qs ≡ gatheredField t (q .0) = a ∙ cond-false (member (q .0) names) _ _ m in
-      let z : contents (q .0) qs ≡ [] = alone (q .1) (contents (q .0) qs) (gatheredField t (q .0)) b (once t (q .0)) in
-      record {
-        new = m;
-        here = sym b ∙ ap (λ (l : List (List ℕ)). q .1 ∷ l) z;
-        left = λ n j. elim (eqb-tells n (q .0))
-          [ inl p ↦ ap (λ (x : ℕ). contents x qs) (p .1) ∙ z ∙ sym (ap (λ (x : Bool). cond (x || member n names) [] (gatheredField t n)) (p .0))
-          | inr p ↦ sym (cond-false (eqb n (q .0)) _ _ (p .0)) ∙ h n j ∙ sym (ap (λ (x : Bool). cond (x || member n names) [] (gatheredField t n)) (p .0)) ];
-      }) ]
+    sym (cond-true (eqb (q .0) (q .0)) _ _ (eq-eqb (q .0) (q .0) refl)) ∙ h (q .0) k in
+    elim (cases-bool (member (q .0) names)) [
+      | inl m ↦ clash (a ∙ cond-true (member (q .0) names) _ _ m)
+      | inr m ↦
+          (let b : q .1 ∷ contents (q .0) qs ≡ gatheredField t (q .0) = a ∙ cond-false (member (q .0) names) _ _ m in
+          let z : contents (q .0) qs ≡ [] = alone (q .1) (contents (q .0) qs) (gatheredField t (q .0)) b (once t (q .0)) in
+          record {
+            new = m;
+            here = sym b ∙ ap (λ (l : List (List ℕ)). q .1 ∷ l) z;
+            left = λ n j. elim (eqb-tells n (q .0)) [
+              | inl p ↦ ap (λ (x : ℕ). contents x qs) (p .1) ∙ z ∙ sym (ap (λ (x : Bool). cond (x || member n names) [] (gatheredField t n)) (p .0))
+              | inr p ↦ sym (cond-false (eqb n (q .0)) _ _ (p .0)) ∙ h n j ∙ sym (ap (λ (x : Bool). cond (x || member n names) [] (gatheredField t n)) (p .0))
+            ];
+          })
+    ]
 
 -- so the walk over the parameters meets no name twice and gathers t
 record Gathers (row : Row) (names : List ℕ) (t : Gathered Number) (ps : List Part) : Type 0 where
@@ -247,24 +249,25 @@ gathers row names t at [] w h =
     record {
       unrepeated = refl;
       gathered = ap (λ (g : Gathered Number). Ok g) (all-met names t (λ n m. elim (cases-bool (has row n))
-        [ inl k ↦ sym (h n k ∙ cond-false (member n names) _ _ m) | inr k ↦ w n k ]));
+          [ inl k ↦ sym (h n k ∙ cond-false (member n names) _ _ m) | inr k ↦ w n k ]));
     }
 gathers row names t at (q ∷ qs) w h =
-    elim (cases-bool (has row (q .0)))
-    [ inl k ↦
-      (let f = first row names t q qs k h in
-      let g = gathers row (q .0 ∷ names) t (at + 2 + length (q .1)) qs w (f .left) in
-      record {
-        unrepeated = cond-true (has row (q .0)) _ _ k ∙ cond-false (member (q .0) names) _ _ (f .new) ∙ g .unrepeated;
-        gathered = cond-true (has row (q .0)) _ _ k
-          ∙ then-ok (valueOf (only names t) (record { name = q .0; content = q .1; place = at })) _ _ _ (brings names t (q .1) at (q .0) (f .here)) (g .gathered);
-      })
-    | inr k ↦
-      (let g = gathers row names t (at + 2 + length (q .1)) qs w (λ n j. sym (cond-false (eqb n (q .0)) _ _ (other row n (q .0) j k)) ∙ h n j) in
-      record {
-        unrepeated = cond-false (has row (q .0)) _ _ k ∙ g .unrepeated;
-        gathered = cond-false (has row (q .0)) _ _ k ∙ g .gathered;
-      }) ]
+    elim (cases-bool (has row (q .0))) [
+      | inl k ↦
+          (let f = first row names t q qs k h in
+          let g = gathers row (q .0 ∷ names) t (at + 2 + length (q .1)) qs w (f .left) in
+          record {
+            unrepeated = cond-true (has row (q .0)) _ _ k ∙ cond-false (member (q .0) names) _ _ (f .new) ∙ g .unrepeated;
+            gathered = cond-true (has row (q .0)) _ _ k
+                ∙ then-ok (valueOf (only names t) (record { name = q .0; content = q .1; place = at })) _ _ _ (brings names t (q .1) at (q .0) (f .here)) (g .gathered);
+          })
+      | inr k ↦
+          (let g = gathers row names t (at + 2 + length (q .1)) qs w (λ n j. sym (cond-false (eqb n (q .0)) _ _ (other row n (q .0) j k)) ∙ h n j) in
+          record {
+            unrepeated = cond-false (has row (q .0)) _ _ k ∙ g .unrepeated;
+            gathered = cond-false (has row (q .0)) _ _ k ∙ g .gathered;
+          })
+    ]
 
 -- each parameter takes two octets at least
 few-parameters : (qs : List Parameter) → length qs ≤ length (encoded qs)

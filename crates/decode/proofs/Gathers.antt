@@ -95,9 +95,10 @@ one-more :
     (row : Row) (met : List ℕ) (g h : Gathered Number) (p : Part) (rest : List (List ℕ)) (n : ℕ) → Placed g (p .name) (p .content) h → member (p .name) met ≡ false → Unmet row met g →
     has row n ≡ true → gatheredField h n ++ rest ≡ gatheredField g n ++ cond (eqb n (p .name)) (p .content ∷ rest) rest
 one-more row met g h p rest n put new empty k =
-    elim (eqb-tells n (p .name))
-    [ inl t ↦ rw (put n, t .0, empty n (ap (λ (x : ℕ). member x met) (t .1) ∙ new) k)
-    | inr t ↦ rw (put n, t .0) ]
+    elim (eqb-tells n (p .name)) [
+      | inl t ↦ rw (put n, t .0, empty n (ap (λ (x : ℕ). member x met) (t .1) ∙ new) k)
+      | inr t ↦ rw (put n, t .0)
+    ]
 
 gathers :
     (row : Row) (met : List ℕ) (g h : Gathered Number) (ps : List Part) → repeated row met ps ≡ None → collected row g ps ≡ Ok h → Unmet row met g →
@@ -106,18 +107,19 @@ gathers row met g h [] r e empty n k =
     let is : h ≡ g = cc in
     ap (λ (x : Gathered Number). gatheredField x n) is ∙ sym (append-nil (gatheredField g n))
 gathers row met g h (p ∷ ps) r e empty n k =
-    elim (cases-bool (has row (p .name)))
-    [ inl t ↦
-      (let new = unmet (member (p .name) met) (p .place) (repeated row (p .name ∷ met) ps) (sym (cond-true (has row (p .name)) _ _ t) ∙ r) in
-      let a = both (valueOf g p) (λ x. collected row x ps) h (sym (cond-true (has row (p .name)) _ _ t) ∙ e) in
-      let put = value-placed g (a .value) (p .content) (p .place) (p .name) (row-known row (p .name) t) (a .first) in
-      let empty′ : Unmet row (p .name ∷ met) (a .value) =
+    elim (cases-bool (has row (p .name))) [
+      | inl t ↦
+          (let new = unmet (member (p .name) met) (p .place) (repeated row (p .name ∷ met) ps) (sym (cond-true (has row (p .name)) _ _ t) ∙ r) in
+          let a = both (valueOf g p) (λ x. collected row x ps) h (sym (cond-true (has row (p .name)) _ _ t) ∙ e) in
+          let put = value-placed g (a .value) (p .content) (p .place) (p .name) (row-known row (p .name) t) (a .first) in
+          let empty′ : Unmet row (p .name ∷ met) (a .value) =
           λ m q s. (let o = or-parts (eqb m (p .name)) (member m met) q in put m ∙ cond-false (eqb m (p .name)) _ _ (o .0) ∙ empty m (o .1) s) in
-      gathers row (p .name ∷ met) (a .value) h ps (new .1) (a .next) empty′ n k
-      ∙ one-more row met g (a .value) p (contents n (withoutPlaces ps)) n put (new .0) empty k)
-    | inr f ↦
-      gathers row met g h ps (sym (cond-false (has row (p .name)) _ _ f) ∙ r) (sym (cond-false (has row (p .name)) _ _ f) ∙ e) empty n k
-      ∙ ap (λ (l : List (List ℕ)). gatheredField g n ++ l) (sym (cond-false (eqb n (p .name)) _ _ (other row n (p .name) k f))) ]
+          gathers row (p .name ∷ met) (a .value) h ps (new .1) (a .next) empty′ n k
+          ∙ one-more row met g (a .value) p (contents n (withoutPlaces ps)) n put (new .0) empty k)
+      | inr f ↦
+          gathers row met g h ps (sym (cond-false (has row (p .name)) _ _ f) ∙ r) (sym (cond-false (has row (p .name)) _ _ f) ∙ e) empty n k
+          ∙ ap (λ (l : List (List ℕ)). gatheredField g n ++ l) (sym (cond-false (eqb n (p .name)) _ _ (other row n (p .name) k f)))
+    ]
 
 -- what was gathered without a name met again is what the parameters carry
 pub carried :

@@ -59,13 +59,16 @@ step-whole at a b r n h = grind (arith, tells)
 
 tell-two : (at a b : ℕ) (r : List ℕ) → (a ≡ 0 → ⊥) → Tells at (a ∷ b ∷ r) (front at (a ∷ b ∷ r))
 tell-two at a b r n =
-    elim (leb-tells b (length r))
-    [ inl t ↦ subst (λ (s : Step). Tells at (a ∷ b ∷ r) s) (sym (step-whole at a b r n (t .1)))
-      (let l : length (take b r) ≡ b = length-take-le b r (t .1) in
-      (n,
-      ap (λ (x : ℕ). a ∷ x ∷ r) (sym l) ∙ ap (λ (x : List ℕ). a ∷ length (take b r) ∷ x) (sym (take-append-drop b r) ∙ ap (λ (m : ℕ). take b r ++ drop m r) (sym l))
-      ∙ ap (λ (m : List ℕ). a ∷ length (take b r) ∷ (take b r ++ m)) (behind-two a b (length (take b r)) r), refl))
-    | inr t ↦ subst (λ (s : Step). Tells at (a ∷ b ∷ r) s) (sym (step-past at a b r n (t .1))) tt ]
+    elim (leb-tells b (length r)) [
+      | inl t ↦ subst (λ (s : Step). Tells at (a ∷ b ∷ r) s) (sym (step-whole at a b r n (t .1)))
+          (let l : length (take b r) ≡ b = length-take-le b r (t .1) in (
+            n,
+            ap (λ (x : ℕ). a ∷ x ∷ r) (sym l) ∙ ap (λ (x : List ℕ). a ∷ length (take b r) ∷ x) (sym (take-append-drop b r) ∙ ap (λ (m : ℕ). take b r ++ drop m r) (sym l))
+                ∙ ap (λ (m : List ℕ). a ∷ length (take b r) ∷ (take b r ++ m)) (behind-two a b (length (take b r)) r),
+            refl,
+          ))
+      | inr t ↦ subst (λ (s : Step). Tells at (a ∷ b ∷ r) s) (sym (step-past at a b r n (t .1))) tt
+    ]
 
 tell : (at : ℕ) (left : List ℕ) → Tells at left (front at left)
 tell at [] = subst (λ (s : Step). Tells at [] s) (sym (step-none at)) tt
@@ -82,12 +85,13 @@ told-given :
     (xs : List ℕ) (at : ℕ) (p : Part) (r : Result (List Part) MessageFault) → Tells at (drop at xs) (given p) → Told xs (at + 2 + length (p .content)) r →
     Told xs at (elim r as (λ _. Result (List Part) MessageFault) [ Ok ps ↦ Ok (p ∷ ps) | Err f ↦ Err f ])
 told-given xs at p (Err f) t h = tt
-told-given xs at p (Ok ps) t h =
-    (t .1
-    ∙ ap (λ (l : List ℕ). p .name ∷ length (p .content) ∷ (p .content ++ l))
+told-given xs at p (Ok ps) t h = (
+  t .1
+      ∙ ap (λ (l : List ℕ). p .name ∷ length (p .content) ∷ (p .content ++ l))
       (drop-drop (2 + length (p .content)) at xs ∙ ap (λ (n : ℕ). drop n xs) (let z : at + (2 + length (p .content)) ≡ at + 2 + length (p .content) = omega arith in z) ∙ h .0)
-    ∙ ap (λ (l : List ℕ). p .name ∷ length (p .content) ∷ l) (sym (append-assoc (p .content) (encoded (withoutPlaces ps)) (0 ∷ []))),
-    (t .0, h .1))
+      ∙ ap (λ (l : List ℕ). p .name ∷ length (p .content) ∷ l) (sym (append-assoc (p .content) (encoded (withoutPlaces ps)) (0 ∷ []))),
+  (t .0, h .1),
+)
 
 told-step :
     (k : ℕ) (xs : List ℕ) (at : ℕ) (s : Step) → Tells at (drop at xs) s → ((p : Part) → Told xs (at + 2 + length (p .content)) (partsBy k xs (at + 2 + length (p .content)))) →
@@ -126,11 +130,11 @@ parts-complete zero xs at qs h e o = absurd (omega arith)
 parts-complete (suc k) xs at [] h e o = ap (next-of k xs at) (ap (front at) e ∙ step-closed at)
 parts-complete (suc k) xs at (q ∷ qs) h e o =
     let e′ : drop at xs ≡ q .0 ∷ length (q .1) ∷ (q .1 ++ (encoded qs ++ (0 ∷ []))) =
-        e ∙ ap (λ (l : List ℕ). q .0 ∷ length (q .1) ∷ l) (append-assoc (q .1) (encoded qs) (0 ∷ [])) in
+    e ∙ ap (λ (l : List ℕ). q .0 ∷ length (q .1) ∷ l) (append-assoc (q .1) (encoded qs) (0 ∷ [])) in
     let d : drop (at + 2 + length (q .1)) xs ≡ encoded qs ++ (0 ∷ []) =
-        ap (λ (n : ℕ). drop n xs) (let z : at + 2 + length (q .1) ≡ at + (2 + length (q .1)) = omega arith in z)
-        ∙ sym (drop-drop (2 + length (q .1)) at xs) ∙ ap (drop (2 + length (q .1))) e′
-        ∙ sym (behind-two (q .0) (length (q .1)) (length (q .1)) (q .1 ++ (encoded qs ++ (0 ∷ []))))
-        ∙ drop-at (q .1) (encoded qs ++ (0 ∷ [])) (length (q .1)) refl in
+    ap (λ (n : ℕ). drop n xs) (let z : at + 2 + length (q .1) ≡ at + (2 + length (q .1)) = omega arith in z)
+    ∙ sym (drop-drop (2 + length (q .1)) at xs) ∙ ap (drop (2 + length (q .1))) e′
+    ∙ sym (behind-two (q .0) (length (q .1)) (length (q .1)) (q .1 ++ (encoded qs ++ (0 ∷ []))))
+    ∙ drop-at (q .1) (encoded qs ++ (0 ∷ [])) (length (q .1)) refl in
     ap (next-of k xs at) (ap (front at) e′ ∙ step-of-sent at (q .0) (q .1) (encoded qs ++ (0 ∷ [])) (o .0))
     ∙ ap (cons-of (record { name = q .0; content = q .1; place = at })) (parts-complete k xs (at + 2 + length (q .1)) qs (omega arith) d (o .1))

@@ -66,11 +66,11 @@ redirection-fields :
     (n : ℕ) → has row.Initial n ≡ true → gatheredField g n ≡ redirectionField r n
 redirection-fields g len r e n k =
     let same =
-        all-or-none (λ a b i. record { redirecting = a; original = b; information = i })
-        (λ a b i r. (ifThere content a ≡ ifThere (λ (x : Redirection Number). content (x .redirecting)) r)
-        × (ifThere content b ≡ ifThere (λ (x : Redirection Number). content (x .original)) r)
-        × (ifThere informationOctets i ≡ ifThere (λ (x : Redirection Number). informationOctets (x .information)) r))
-        (λ a b i. (refl, refl, refl)) (refl, refl, refl) (g .redirecting) (g .original) (g .information) len r e in
+    all-or-none (λ a b i. record { redirecting = a; original = b; information = i })
+    (λ a b i r. (ifThere content a ≡ ifThere (λ (x : Redirection Number). content (x .redirecting)) r)
+    × (ifThere content b ≡ ifThere (λ (x : Redirection Number). content (x .original)) r)
+    × (ifThere informationOctets i ≡ ifThere (λ (x : Redirection Number). informationOctets (x .information)) r))
+    (λ a b i. (refl, refl, refl)) (refl, refl, refl) (g .redirecting) (g .original) (g .information) len r e in
     let P : ℕ → Type 0 = λ n. gatheredField g n ≡ redirectionField r n in
     by-name P n 0x0B (same .0) (λ n0B. by-name P n 0x28 (same .1) (λ n28. by-name P n 0x13 (same .2) (λ n13. absurd (grind (arith, tells)))))
 
@@ -83,11 +83,11 @@ backward-fields :
     gatheredField g n ≡ backwardField (record { «may_divert» = g .«may_divert»; notice = m; restriction = g .restriction }) n
 backward-fields g len m e n k =
     let same =
-        all-or-none (λ _ d r. record { information = d; number = r })
-        (λ a d r m. (ifThere (λ _. 0xFB ∷ []) a ≡ ifThere (λ (x : Notice Number). 0xFB ∷ []) m)
-        × (ifThere diversionOctets d ≡ ifThere (λ (x : Notice Number). diversionOctets (x .information)) m)
-        × (ifThere plain r ≡ ifThere (λ (x : Notice Number). plain (x .number)) m))
-        (λ a d r. (refl, refl, refl)) (refl, refl, refl) (ifAnnounced (g .announced)) (g .diversion) (g .redirection) len m e in
+    all-or-none (λ _ d r. record { information = d; number = r })
+    (λ a d r m. (ifThere (λ _. 0xFB ∷ []) a ≡ ifThere (λ (x : Notice Number). 0xFB ∷ []) m)
+    × (ifThere diversionOctets d ≡ ifThere (λ (x : Notice Number). diversionOctets (x .information)) m)
+    × (ifThere plain r ≡ ifThere (λ (x : Notice Number). plain (x .number)) m))
+    (λ a d r. (refl, refl, refl)) (refl, refl, refl) (ifAnnounced (g .announced)) (g .diversion) (g .redirection) len m e in
     let P : ℕ → Type 0 = λ n. gatheredField g n ≡ backwardField (record { «may_divert» = g .«may_divert»; notice = m; restriction = g .restriction }) n in
     by-name P n 0x29 refl (λ n29. by-name P n 0x2C (sym (announced (g .announced)) ∙ same .0) (λ n2C. by-name P n 0x36 (same .1) (λ n36.
     by-name P n 0x0C (same .2) (λ n0C. by-name P n 0x40 refl (λ n40. absurd (grind (arith, tells)))))))

@@ -36,7 +36,7 @@ pub moves :
 moves at left n h =
     let w = whole at left n h in
     let l : length (take (getD left 1 0) (drop 2 left)) ≡ getD left 1 0 =
-        length-take-le (getD left 1 0) (drop 2 left) (simp length-drop (omega arith)) in
+    length-take-le (getD left 1 0) (drop 2 left) (simp length-drop (omega arith)) in
     rw w (omega (arith, l))
 
 -- past the end nothing stands

@@ -100,12 +100,14 @@ small Connected n e = grind (arith, tells)
 small Bare n e = grind (arith, tells)
 
 flags-more : (row : Row) (met : List Bool) (names : List ℕ) (n : ℕ) → has row n ≡ true → Flags row met names → Flags row (set met n true) (n ∷ names)
-flags-more row met names n e f =
-    (length-set met n true ∙ f .0,
-    λ m h. elim (eqb-tells m n)
-    [ inl t ↦ (let s = small row n e in let l = f .0 in
-      ap (λ (j : ℕ). getD (set met n true) j false) (t .1) ∙ getD-set-same met n true false (omega arith) ∙ sym (ap (λ b. b || member m names) (t .0)))
-    | inr t ↦ getD-set-other met n m true false (t .1) ∙ f .1 m h ∙ sym (ap (λ b. b || member m names) (t .0)) ])
+flags-more row met names n e f = (
+  length-set met n true ∙ f .0,
+  λ m h. elim (eqb-tells m n) [
+    | inl t ↦ (let s = small row n e in let l = f .0 in
+        ap (λ (j : ℕ). getD (set met n true) j false) (t .1) ∙ getD-set-same met n true false (omega arith) ∙ sym (ap (λ b. b || member m names) (t .0)))
+    | inr t ↦ getD-set-other met n m true false (t .1) ∙ f .1 m h ∙ sym (ap (λ b. b || member m names) (t .0))
+  ],
+)
 
 -- a fault stays, and what is met again still counts
 run-fault :
@@ -113,11 +115,13 @@ run-fault :
     run row met (found g (Some f) None) ps ≡ unlessRepeated (repeated row names ps) (Err f)
 run-fault row met names g f [] fl = refl
 run-fault row met names g f (p ∷ ps) fl =
-    elim (cases-bool (has row (p .name)))
-    [ inl e ↦ elim (cases-bool (member (p .name) names))
-      [ inl m ↦ rw (e, fl .1 (p .name) e ∙ m, m) (run-again row (set met (p .name) true) g (Some f) (p .place) ps)
-      | inr m ↦ rw (e, fl .1 (p .name) e ∙ m, m) (run-fault row (set met (p .name) true) (p .name ∷ names) g f ps (flags-more row met names (p .name) e fl)) ]
-    | inr e ↦ rw e (run-fault row met names g f ps fl) ]
+    elim (cases-bool (has row (p .name))) [
+      | inl e ↦ elim (cases-bool (member (p .name) names)) [
+        | inl m ↦ rw (e, fl .1 (p .name) e ∙ m, m) (run-again row (set met (p .name) true) g (Some f) (p .place) ps)
+        | inr m ↦ rw (e, fl .1 (p .name) e ∙ m, m) (run-fault row (set met (p .name) true) (p .name ∷ names) g f ps (flags-more row met names (p .name) e fl))
+      ]
+      | inr e ↦ rw e (run-fault row met names g f ps fl)
+    ]
 
 took :
     (row : Row) (met : List Bool) (names : List ℕ) (g : Gathered Number) (ps : List Part) (r : Out) → Flags row met names →
@@ -131,13 +135,15 @@ run-is :
     run row met (found g None None) ps ≡ unlessRepeated (repeated row names ps) (collected row g ps)
 run-is row met names g [] fl = refl
 run-is row met names g (p ∷ ps) fl =
-    elim (cases-bool (has row (p .name)))
-    [ inl e ↦ elim (cases-bool (member (p .name) names))
-      [ inl m ↦ rw (e, fl .1 (p .name) e ∙ m, m) (run-again row (set met (p .name) true) g None (p .place) ps)
-      | inr m ↦ rw (e, fl .1 (p .name) e ∙ m, m)
-        (took row (set met (p .name) true) (p .name ∷ names) g ps (valueOf g p) (flags-more row met names (p .name) e fl)
-        (λ h. run-is row (set met (p .name) true) (p .name ∷ names) h ps (flags-more row met names (p .name) e fl))) ]
-    | inr e ↦ rw e (run-is row met names g ps fl) ]
+    elim (cases-bool (has row (p .name))) [
+      | inl e ↦ elim (cases-bool (member (p .name) names)) [
+        | inl m ↦ rw (e, fl .1 (p .name) e ∙ m, m) (run-again row (set met (p .name) true) g None (p .place) ps)
+        | inr m ↦ rw (e, fl .1 (p .name) e ∙ m, m)
+            (took row (set met (p .name) true) (p .name ∷ names) g ps (valueOf g p) (flags-more row met names (p .name) e fl)
+            (λ h. run-is row (set met (p .name) true) (p .name ∷ names) h ps (flags-more row met names (p .name) e fl)))
+      ]
+      | inr e ↦ rw e (run-is row met names g ps fl)
+    ]
 
 nothing-met : (n k : ℕ) → getD (replicate k false) n false ≡ false
 nothing-met n zero = refl
@@ -163,10 +169,14 @@ pub ahead :
     given p ≡ stepAt xs at → to ≡ after (stepAt xs at) at → at < to →
     (j : ℕ) × ((length xs < j + to) × (runBy j row xs to (metAfter row met p) (walkAfter row met s p) ≡ runBy k row xs at met s))
 ahead zero row xs at met s p to h b e t f = absurd (omega arith)
-ahead (suc k) row xs at met s p to h b e t f =
-    (k, (omega arith,
+ahead (suc k) row xs at met s p to h b e t f = (
+  k,
+  (
+    omega arith,
     ap (λ (z : ℕ). runBy k row xs z (metAfter row met p) (walkAfter row met s p)) (t ∙ sym (ap (λ (q : Step). after q at) e))
-    ∙ ap (cont k row xs at met s) e))
+        ∙ ap (cont k row xs at met s) e,
+  ),
+)
 
 pub stops :
     (k : ℕ) (row : Row) (xs : List ℕ) (at : ℕ) (met : List Bool) (s : Walk Number) → length xs < k + at → at ≤ length xs →
@@ -188,9 +198,9 @@ ahead-then k row xs at met s s′ p n to h b e t f i q r =
     let a = ahead k row xs at met s p to h b e t f in
     let q′ : has row (p .name) ≡ true = sym (q ∙ ap (has row) i) in
     let m : metAfter row met p ≡ set met n true =
-        ap (λ (c : Bool). cond c (set met (p .name) true) met) q′ ∙ ap (λ (z : ℕ). set met z true) (sym i) in
+    ap (λ (c : Bool). cond c (set met (p .name) true) met) q′ ∙ ap (λ (z : ℕ). set met z true) (sym i) in
     let g : walkAfter row met s p ≡ s′ =
-        ap (λ (c : Bool). cond c (addOf s p (getD met (p .name) false)) s) q′ ∙ ap (λ (z : ℕ). addOf s p (getD met z false)) (sym i) ∙ sym r in
+    ap (λ (c : Bool). cond c (addOf s p (getD met (p .name) false)) s) q′ ∙ ap (λ (z : ℕ). addOf s p (getD met z false)) (sym i) ∙ sym r in
     (a .0, (a .1 .0, sym (ap (λ (l : List Bool). runBy (a .0) row xs to l (walkAfter row met s p)) m ∙ ap (λ (z : Walk Number). runBy (a .0) row xs to (set met n true) z) g) ∙ a .1 .1))
 
 pub ahead-else :

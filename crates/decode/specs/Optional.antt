@@ -105,9 +105,10 @@ unlessRepeated None r = r
 
 abbrev pub optionalFrom : Row → List ℕ → ℕ → Result (Gathered Number) MessageFault
 optionalFrom row octets at =
-    elim (partsAt octets at)
-    [ Ok ps ↦ unlessRepeated (repeated row [] ps) (collected row nothing ps)
-    | Err f ↦ Err f ]
+    elim (partsAt octets at) [
+      | Ok ps ↦ unlessRepeated (repeated row [] ps) (collected row nothing ps)
+      | Err f ↦ Err f
+    ]
 
 -- The same by one walk: values up to the first fault among them, and the place of the first name met again.
 abbrev pub start : Walk Number

@@ -86,10 +86,11 @@ after (refused f) at = at
 abbrev pub partsBy : ℕ → List ℕ → ℕ → Result (List Part) MessageFault
 partsBy zero octets at = Err (fault.Optional at)
 partsBy (suc k) octets at =
-    elim (stepAt octets at)
-    [ closed ↦ Ok []
-    | given p ↦ elim (partsBy k octets (at + 2 + length (p .content))) [ Ok ps ↦ Ok (p ∷ ps) | Err f ↦ Err f ]
-    | refused f ↦ Err f ]
+    elim (stepAt octets at) [
+      | closed ↦ Ok []
+      | given p ↦ elim (partsBy k octets (at + 2 + length (p .content))) [ Ok ps ↦ Ok (p ∷ ps) | Err f ↦ Err f ]
+      | refused f ↦ Err f
+    ]
 
 -- each parameter takes two octets at least, so no more of them stand there than octets
 abbrev pub partsAt : List ℕ → ℕ → Result (List Part) MessageFault

@@ -60,7 +60,10 @@ pub(crate) fn nothing() -> Gathered<Number>
 }
 
 // The value of one parameter beside those of others.
-fn value_of(gathered: Gathered<Number>, p: OptionalParameter) -> Result<Gathered<Number>, MessageFault>
+fn value_of(
+    gathered: Gathered<Number>,
+    p: OptionalParameter,
+) -> Result<Gathered<Number>, MessageFault>
     requires { ⌜ InItsCase p ⌝ }
     ensures { λ r. ⌜ r ≡ valueOf gathered (partOf (p .entry)) ⌝ }
 {
@@ -131,20 +134,34 @@ fn end(walk: Walk<Number>) -> Result<Gathered<Number>, MessageFault>
     ensures { λ r. ⌜ r ≡ endOf walk ⌝ }
 {
     match walk {
-        Walk { again: Some(place), .. } => Err(MessageFault::Repeated(place)),
-        Walk { fault: Some(fault), .. } => Err(fault),
+        Walk {
+            again: Some(place),
+            ..
+        } => Err(MessageFault::Repeated(place)),
+        Walk {
+            fault: Some(fault),
+            ..
+        } => Err(fault),
         Walk { gathered, .. } => Ok(gathered),
     }
 }
 
 // Reads the optional part from a place on in one walk: faults of its structure come first, then names met again, then values.
-pub(crate) fn read_optional(row: Row, octets: &[u8], place: usize) -> Result<Gathered<Number>, MessageFault>
+pub(crate) fn read_optional(
+    row: Row,
+    octets: &[u8],
+    place: usize,
+) -> Result<Gathered<Number>, MessageFault>
     requires { ⌜ place ≤ length (now octets) ⌝ }
     ensures { λ r. ⌜ r ≡ optionalFrom row (now (octets .entry)) place ⌝ }
 {
     let mut part = OptionalPart::new(octets, place);
     let mut met = [false; 256];
-    let mut walk = Walk { gathered: nothing(), fault: None, again: None };
+    let mut walk = Walk {
+        gathered: nothing(),
+        fault: None,
+        again: None,
+    };
     loop {
         match part.next()? {
             Some(p) => {

@@ -73,7 +73,12 @@ fn variable<'a>(octets: &'a [u8], at: usize) -> Result<&'a [u8], MessageFault>
 }
 
 // The optional part, by its pointer; it begins where the mandatory part ends.
-fn optional(row: Row, octets: &[u8], at: usize, end: usize) -> Result<Gathered<Number>, MessageFault>
+fn optional(
+    row: Row,
+    octets: &[u8],
+    at: usize,
+    end: usize,
+) -> Result<Gathered<Number>, MessageFault>
     requires { ⌜ at < end ⌝ ∗ ⌜ end ≤ length (now octets) ⌝ }
     ensures { λ r. ⌜ r ≡ optionalIn row (now (octets .entry)) at end ⌝ }
 {
@@ -102,7 +107,10 @@ fn tail(row: Row, octets: &[u8], at: usize) -> Result<Gathered<Number>, MessageF
 }
 
 // 0B, 28 and 13: all or none.
-fn redirection(g: Gathered<Number>, length: usize) -> Result<Option<Redirection<Number>>, MessageFault>
+fn redirection(
+    g: Gathered<Number>,
+    length: usize,
+) -> Result<Option<Redirection<Number>>, MessageFault>
     ensures { λ r. ⌜ r ≡ redirectionIn g length ⌝ }
 {
     let Some(redirecting) = g.redirecting else {
@@ -117,7 +125,11 @@ fn redirection(g: Gathered<Number>, length: usize) -> Result<Option<Redirection<
     let Some(information) = g.information else {
         return Err(MessageFault::Group(length));
     };
-    Ok(Some(Redirection { redirecting, original, information }))
+    Ok(Some(Redirection {
+        redirecting,
+        original,
+        information,
+    }))
 }
 
 // 2C, 36 and 0C: all or none.
@@ -125,7 +137,10 @@ fn notice(g: &Gathered<Number>, length: usize) -> Result<Option<Notice<Number>>,
     ensures { λ r. ⌜ r ≡ noticeIn (now (g .entry)) length ⌝ }
 {
     match (g.announced, g.diversion, g.redirection) {
-        (true, Some(information), Some(number)) => Ok(Some(Notice { information, number })),
+        (true, Some(information), Some(number)) => Ok(Some(Notice {
+            information,
+            number,
+        })),
         (false, None, None) => Ok(None),
         _ => Err(MessageFault::Group(length)),
     }
@@ -161,7 +176,11 @@ fn backward(octets: &[u8], at: usize) -> Result<Backward<Number>, MessageFault>
 {
     let g = tail(Row::Backward, octets, at)?;
     let notice = notice(&g, octets.len())?;
-    Ok(Backward { may_divert: g.may_divert, notice, restriction: g.restriction })
+    Ok(Backward {
+        may_divert: g.may_divert,
+        notice,
+        restriction: g.restriction,
+    })
 }
 
 fn address_complete(octets: &[u8]) -> Result<Message, MessageFault>

@@ -26,7 +26,11 @@ pub(crate) fn information(content: &[u8]) -> Option<RedirectionInformation>
     let indicator = Indicator::from_code(*first)?;
     let count = Count::new(*second & 0x0F)?;
     let reason = Reason::from_code(*second >> 4)?;
-    Some(RedirectionInformation { indicator, count, reason })
+    Some(RedirectionInformation {
+        indicator,
+        count,
+        reason,
+    })
 }
 
 // The low three bits are the notification option, the next four the reason, and the top one is 0.
@@ -38,7 +42,10 @@ pub(crate) fn diversion(content: &[u8]) -> Option<DiversionInformation>
     };
     let notification = Notification::from_code(*octet & 0x07)?;
     let reason = Reason::from_code(*octet >> 3)?;
-    Some(DiversionInformation { notification, reason })
+    Some(DiversionInformation {
+        notification,
+        reason,
+    })
 }
 
 pub(crate) fn restriction(content: &[u8]) -> Option<Restriction>

@@ -18,7 +18,11 @@ impl Row {
     {
         match self {
             Row::Initial => name == 0x0B || name == 0x28 || name == 0x13,
-            Row::Backward => name == 0x29 || name == 0x2C || name == 0x36 || name == 0x0C || name == 0x40,
+            Row::Backward => name == 0x29
+                || name == 0x2C
+                || name == 0x36
+                || name == 0x0C
+                || name == 0x40,
             Row::Connected => name == 0x40,
             Row::Bare => false,
         }

@@ -90,9 +90,10 @@ pack-at (d ∷ e ∷ ds) (suc k) =
 -- the places behind a number's digits hold 0, so its digits may be read there too
 digit-is : (n : Number) (k : ℕ) → getD (digitsOf n) k 0 ≡ getD (n .digits) k 0
 digit-is n k =
-    elim (cases-lt k (n .count))
-    [ inl h ↦ getD-take (n .count) (n .digits) k 0 h
-    | inr h ↦ getD-past (digitsOf n) k 0 (let l = length-take (n .count) (n .digits) in omega arith) ∙ sym (n .rest k h) ]
+    elim (cases-lt k (n .count)) [
+      | inl h ↦ getD-take (n .count) (n .digits) k 0 h
+      | inr h ↦ getD-past (digitsOf n) k 0 (let l = length-take (n .count) (n .digits) in omega arith) ∙ sym (n .rest k h)
+    ]
 
 pub octet-is : (n : Number) (k low high : ℕ) → low ≡ getD (n .digits) (2 * k) 0 → high ≡ getD (n .digits) (2 * k + 1) 0 → high * 16 + low ≡ getD (pack (digitsOf n)) k 0
 octet-is n k low high e f =
@@ -142,8 +143,8 @@ coded may r xs p used m h lo hi nat plan e =
     let d : digitsOf (numberOf ds) ≡ ds = digits-again ds (record { few = omega arith; many = omega arith; each = digits-each ds (b .digits) }) in
     let n : natureOf (length ds) ≡ getD xs 0 0 = grind (arith, tells) in
     let s : xs ≡ content (record { number = numberOf ds; restricted = r }) =
-        whole xs (natureOf (length ds)) (planOf r) (pack ds) h (sym n) plan (sym k)
-        ∙ ap (λ (l : List ℕ). natureOf (length l) ∷ planOf r ∷ pack l) (sym d) in
+    whole xs (natureOf (length ds)) (planOf r) (pack ds) h (sym n) plan (sym k)
+    ∙ ap (λ (l : List ℕ). natureOf (length l) ∷ planOf r ∷ pack l) (sym d) in
     (subst (λ (q : Party Number). NumberCoded may q xs) (b .party) (record { marked = m; same = s }), b .count ∙ ld)
 
 pub sound :
@@ -157,14 +158,15 @@ sound may xs p used e =
     let l2 : 2 ≤ length xs = omega (arith, ltb-false _ _ (a .0)) in
     let c3 : 3 ≤ countIn xs = omega (arith, ltb-false _ _ (b .0)) in
     let c15 : countIn xs ≤ 15 = omega (arith, ltb-false _ _ (c .0)) in
-    elim (eqb-tells (getD xs 1 0) 0x10)
-    [ inl t ↦ coded may false xs p used (λ q. (let z : _≡_ {A = ℕ} 0 1 = cc in absurd (omega arith))) l2 c3 c15 n (t .1) (sym (cond-true (eqb (getD xs 1 0) 0x10) _ _ (t .0)) ∙ d .1)
-    | inr t ↦
-      (let g : cond (may && eqb (getD xs 1 0) 0x14) (readDigits true (countIn xs) (drop 2 xs)) (Err NatureOrPlan) ≡ Ok (p, used) =
+    elim (eqb-tells (getD xs 1 0) 0x10) [
+      | inl t ↦ coded may false xs p used (λ q. (let z : _≡_ {A = ℕ} 0 1 = cc in absurd (omega arith))) l2 c3 c15 n (t .1) (sym (cond-true (eqb (getD xs 1 0) 0x10) _ _ (t .0)) ∙ d .1)
+      | inr t ↦
+          (let g : cond (may && eqb (getD xs 1 0) 0x14) (readDigits true (countIn xs) (drop 2 xs)) (Err NatureOrPlan) ≡ Ok (p, used) =
           sym (cond-false (eqb (getD xs 1 0) 0x10) _ _ (t .0)) ∙ d .1 in
-      let h = passed (may && eqb (getD xs 1 0) 0x14) (p, used) NatureOrPlan _ g in
-      let w = and-parts may (eqb (getD xs 1 0) 0x14) (h .0) in
-      coded may true xs p used (λ q. w .0) l2 c3 c15 n (eqb-true (getD xs 1 0) 0x14 (w .1)) (h .1)) ]
+          let h = passed (may && eqb (getD xs 1 0) 0x14) (p, used) NatureOrPlan _ g in
+          let w = and-parts may (eqb (getD xs 1 0) 0x14) (h .0) in
+          coded may true xs p used (λ q. w .0) l2 c3 c15 n (eqb-true (getD xs 1 0) 0x14 (w .1)) (h .1))
+    ]
 
 goes-on :
     (may r : Bool) (xs : List ℕ) → (r ≡ true → may ≡ true) →
@@ -203,7 +205,7 @@ complete may xs p c = subst (λ (ys : List ℕ). readNumber may ys ≡ Ok (p, le
 pub one-number : One-number-to-a-coding
 one-number p q e =
     let a : Ok (p, length (content p) - 2) ≡ Ok (q, length (content q) - 2) =
-        sym (at-content true p (λ _. refl)) ∙ ap (readNumber true) e ∙ at-content true q (λ _. refl) in
+    sym (at-content true p (λ _. refl)) ∙ ap (readNumber true) e ∙ at-content true q (λ _. refl) in
     let b : (p, length (content p) - 2) ≡ (q, length (content q) - 2) = cc a in
     ap (λ (x : Party Number × ℕ). x .0) b
 

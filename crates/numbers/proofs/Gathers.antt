@@ -23,9 +23,10 @@ length-gathered g = length-take-le (g .count) (g .digits) (omega (arith, g .high
 
 pub low-set : (all : List ℕ) (k d : ℕ) → k < length all → d ≤ 9 → ((j : ℕ) → getD all j 0 ≤ 9) → (j : ℕ) → getD (set all k d) j 0 ≤ 9
 low-set all k d h l f j =
-    elim (eqb-tells j k)
-    [ inl p ↦ subst (λ (m : ℕ). getD (set all k d) m 0 ≤ 9) (sym (p .1)) (let s = getD-set-same all k d 0 h in omega arith)
-    | inr p ↦ (let ne : j ≢ k = p .1 in let s = getD-set-other all k j d 0 ne in omega (arith, f j)) ]
+    elim (eqb-tells j k) [
+      | inl p ↦ subst (λ (m : ℕ). getD (set all k d) m 0 ≤ 9) (sym (p .1)) (let s = getD-set-same all k d 0 h in omega arith)
+      | inr p ↦ (let ne : j ≢ k = p .1 in let s = getD-set-other all k j d 0 ne in omega (arith, f j))
+    ]
 
 pub zero-set : (all : List ℕ) (k d : ℕ) → ((j : ℕ) → k ≤ j → getD all j 0 ≡ 0) → (j : ℕ) → k + 1 ≤ j → getD (set all k d) j 0 ≡ 0
 zero-set all k d f j h = let ne : j ≢ k = omega arith in getD-set-other all k j d 0 ne ∙ f j (omega arith)

@@ -25,8 +25,9 @@ use Rattle.waiting.specs.Items.{isFull}
 pub take-min : {X : Type 0} (n held : ℕ) (xs : List X) → n ≡ min held (length xs) → take n xs ≡ take held xs
 take-min n held xs e =
     elim (cases-lt held (length xs)) [
-      inl h ↦ ap (λ k. take k xs) (omega arith)
-    | inr h ↦ take-all n xs (omega arith) ∙ sym (take-all held xs h) ]
+      | inl h ↦ ap (λ k. take k xs) (omega arith)
+      | inr h ↦ take-all n xs (omega arith) ∙ sym (take-all held xs h)
+    ]
 
 -- a cut within the memory leaves room, and one at its end leaves none
 pub cut-room : {X : Type 0} (held : ℕ) (xs : List X) → held < length xs → isFull (length xs) (take held xs) ≡ false
@@ -67,7 +68,7 @@ closed-up d i n held e h =
     let whole : n ≡ suc i + m = omega arith in
     let next : i + 1 ≡ suc i = omega arith in
     let rest : drop (suc i) (take n d) ≡ take m (drop (i + 1) d) =
-        ap (λ k. drop (suc i) (take k d)) whole ∙ drop-take (suc i) m d ∙ ap (λ k. take m (drop k d)) (sym next) in
+    ap (λ k. drop (suc i) (take k d)) whole ∙ drop-take (suc i) m d ∙ ap (λ k. take m (drop k d)) (sym next) in
     ap (λ k. take k (paste d i (drop (i + 1) d) m)) front
     ∙ take-paste d i (drop (i + 1) d) m (omega arith) inside
     ∙ ap (λ z. take i d ++ z) (sym rest)

@@ -37,14 +37,16 @@ found-by p y ys n i true t e ih = record {
   at = 0;
   is = (let q : n ≡ i = cc in omega arith);
   answers = sym (ap (λ b. cond b (Some y) (earliest p ys)) t);
-  leaves = sym (ap (λ b. cond b ys (y ∷ withoutEarliest p ys)) t) }
+  leaves = sym (ap (λ b. cond b ys (y ∷ withoutEarliest p ys)) t);
+}
 found-by p y ys n i false t e ih =
     let r = ih e in
     record {
       at = suc (r .at);
       is = (let q = r .is in omega arith);
       answers = r .answers ∙ sym (ap (λ b. cond b (Some y) (earliest p ys)) t);
-      leaves = ap (λ l. y ∷ l) (r .leaves) ∙ sym (ap (λ b. cond b ys (y ∷ withoutEarliest p ys)) t) }
+      leaves = ap (λ l. y ∷ l) (r .leaves) ∙ sym (ap (λ b. cond b ys (y ∷ withoutEarliest p ys)) t);
+    }
 
 found : {X : Type 0} (p : X → Bool) (xs : List X) (n i : ℕ) → Some i ≡ firstFrom p n xs → Found p xs n i
 found p [] n i e = absurd (let z : _≡_ {A = ℕ} 0 1 = cc in omega arith)
@@ -72,7 +74,8 @@ missing-by :
 missing-by p y ys n true t e ih = absurd (let z : _≡_ {A = ℕ} 0 1 = cc in omega arith)
 missing-by p y ys n false t e ih = record {
   answers = ih e .answers ∙ sym (ap (λ b. cond b (Some y) (earliest p ys)) t);
-  leaves = ap (λ l. y ∷ l) (ih e .leaves) ∙ sym (ap (λ b. cond b ys (y ∷ withoutEarliest p ys)) t) }
+  leaves = ap (λ l. y ∷ l) (ih e .leaves) ∙ sym (ap (λ b. cond b ys (y ∷ withoutEarliest p ys)) t);
+}
 
 pub missing : {X : Type 0} (p : X → Bool) (xs : List X) (n : ℕ) → None ≡ firstFrom p n xs → Missing p xs
 missing p [] n e = record { answers = refl; leaves = refl }

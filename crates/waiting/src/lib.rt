@@ -37,7 +37,10 @@ impl<'a, T: Copy> WaitingList<'a, T> {
     {
         let count = limit.min(slots.len());
         let (front, _) = slots.split_at_mut(count);
-        WaitingList { slots: front, held: 0 }
+        WaitingList {
+            slots: front,
+            held: 0,
+        }
     }
 
     // The elements, in their order.

@@ -9,7 +9,10 @@ impl Draft {
     pub fn new() -> Draft
         ensures { λ r. ⌜ drafted r ≡ [] ⌝ }
     {
-        Draft { octets: [0; 64], len: 0 }
+        Draft {
+            octets: [0; 64],
+            len: 0,
+        }
     }
 
     // One octet more.

@@ -17,7 +17,10 @@ impl Digits {
     pub(crate) fn new() -> Digits
         ensures { λ r. ⌜ gathered r ≡ [] ⌝ }
     {
-        Digits { digits: [0; 15], count: 0 }
+        Digits {
+            digits: [0; 15],
+            count: 0,
+        }
     }
 
     // One digit more; none where it is no digit or there are 15 already.
@@ -41,7 +44,10 @@ impl Digits {
             return None;
         }
         let digits = self.digits;
-        Some(Number { digits, count: self.count })
+        Some(Number {
+            digits,
+            count: self.count,
+        })
     }
 }
 

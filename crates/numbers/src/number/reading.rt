@@ -49,7 +49,11 @@ fn digits_of(octets: &[u8], count: usize) -> Option<Number>
 }
 
 // The digits, then the filler behind an odd count of them.
-fn digits_and_filler(octets: &[u8], restricted: bool, count: usize) -> Result<(Party<Number>, usize), NumberFault>
+fn digits_and_filler(
+    octets: &[u8],
+    restricted: bool,
+    count: usize,
+) -> Result<(Party<Number>, usize), NumberFault>
     requires { ⌜ 3 ≤ count ⌝ ∗ ⌜ count ≤ 15 ⌝ ∗ ⌜ count ≤ 2 * length (now octets) ⌝ ∗ ⌜ 2 * length (now octets) ≤ count + 1 ⌝ }
     ensures { λ r. ⌜ r ≡ readDigits restricted count (now (octets .entry)) ⌝ }
 {

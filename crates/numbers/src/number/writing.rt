@@ -46,7 +46,11 @@ impl Party<Number> {
     pub fn draft(&self, draft: &mut Draft)
         ensures { λ _. ⌜ drafted (now (draft .exit)) ≡ cut (drafted (now (draft .entry)) ++ content (now (self .entry))) ⌝ }
     {
-        let nature = if self.number.count % 2 == 1 { 0x83 } else { 0x03 };
+        let nature = if self.number.count % 2 == 1 {
+            0x83
+        } else {
+            0x03
+        };
         let plan = if self.restricted { 0x14 } else { 0x10 };
         draft.push_all(&[nature, plan]);
         for k in 0..self.number.digit_octets() {

@@ -23,7 +23,8 @@ returns-in-rest g c =
       left = same ∙ sym (none-left p (c .loop-room .room) s none) ∙ c .loop-room .inv .0;
       moved = sym (none-moved p (c .loop-room .room) s t none) ∙ c .loop-room .inv .1;
       source-room = c .take .ensures .room ∙ c .loop-room .inv .3;
-      target-room = c .loop-room .inv .4 }
+      target-room = c .loop-room .inv .4;
+    }
 
 pub loop-room-again : need.loop-room-again
 loop-room-again g c =
@@ -34,14 +35,15 @@ loop-room-again g c =
     let n = c .loop-room .room - 1 in
     let less : suc n ≡ c .loop-room .room = omega arith in
     let put : g .T·Carrier .waiting (c .put .last .self) ≡ t ++ (e ∷ []) =
-        c .put .ensures .after
-        ∙ room-added (g .T·Carrier .capacity (c .loop-room .target)) (c .loop-room .room) t e (omega arith) (c .loop-room .inv .2) in
-    ( ap (withoutFirst p n) (c .take .ensures .after) ∙ ap (λ k. withoutFirst p k s) less ∙ c .loop-room .inv .0,
+    c .put .ensures .after
+    ∙ room-added (g .T·Carrier .capacity (c .loop-room .target)) (c .loop-room .room) t e (omega arith) (c .loop-room .inv .2) in (
+      ap (withoutFirst p n) (c .take .ensures .after) ∙ ap (λ k. withoutFirst p k s) less ∙ c .loop-room .inv .0,
       ap (λ l. withFirst p n l (g .T·Carrier .waiting (c .put .last .self))) (c .take .ensures .after)
-      ∙ ap (withFirst p n _) put
-      ∙ one-moved p n s t e (c .in-Some .ensures tt .answer)
-      ∙ ap (λ k. withFirst p k s t) less
-      ∙ c .loop-room .inv .1,
+          ∙ ap (withFirst p n _) put
+          ∙ one-moved p n s t e (c .in-Some .ensures tt .answer)
+          ∙ ap (λ k. withFirst p k s t) less
+          ∙ c .loop-room .inv .1,
       ap (λ l. n + length l) put ∙ (let more = length-push t e in omega (arith, c .loop-room .inv .2)) ∙ sym (c .put .ensures .room),
       c .take .ensures .room ∙ c .loop-room .inv .3,
-      c .put .ensures .room ∙ c .loop-room .inv .4 )
+      c .put .ensures .room ∙ c .loop-room .inv .4,
+    )

@@ -12,7 +12,7 @@ Inv-loop-room g l =
     let start = freeOf (g .T·Carrier .capacity (l .entry .target)) (g .T·Carrier .waiting (l .entry .target)) in
     (withoutFirst p (l .room) (g .S·Carrier .waiting (l .source)) ≡ withoutFirst p start (g .S·Carrier .waiting (l .entry .source)))
     × (withFirst p (l .room) (g .S·Carrier .waiting (l .source)) (g .T·Carrier .waiting (l .target))
-      ≡ withFirst p start (g .S·Carrier .waiting (l .entry .source)) (g .T·Carrier .waiting (l .entry .target)))
+    ≡ withFirst p start (g .S·Carrier .waiting (l .entry .source)) (g .T·Carrier .waiting (l .entry .target)))
     × (l .room + length (g .T·Carrier .waiting (l .target)) ≡ g .T·Carrier .capacity (l .target))
     × (g .S·Carrier .capacity (l .source) ≡ g .S·Carrier .capacity (l .entry .source))
     × (g .T·Carrier .capacity (l .target) ≡ g .T·Carrier .capacity (l .entry .target))

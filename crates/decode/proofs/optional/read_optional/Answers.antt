@@ -21,10 +21,19 @@ pub loop-p-holds : need.loop-p-holds
 loop-p-holds c =
     let xs = c .args .octets .now in
     let run : ℕ → Gathered Number → Result (Gathered Number) MessageFault =
-        λ z g. runBy (length xs + 1) (c .args .row) xs z (replicate 256 false) (record { gathered = g; fault = None; again = None }) in
-    (search needs, search needs, refl, (length xs + 1, (omega arith,
-    ap (λ (g : Gathered Number). run (c .new-part .result .place) g) (c .nothing .ensures) ∙ ap (λ (z : ℕ). run z nothing) (c .new-part .ensures .1)
-    ∙ walk-is (c .args .row) xs (c .args .place))))
+    λ z g. runBy (length xs + 1) (c .args .row) xs z (replicate 256 false) (record { gathered = g; fault = None; again = None }) in (
+      search needs,
+      search needs,
+      refl,
+      (
+        length xs + 1,
+        (
+          omega arith,
+          ap (λ (g : Gathered Number). run (c .new-part .result .place) g) (c .nothing .ensures) ∙ ap (λ (z : ℕ). run z nothing) (c .new-part .ensures .1)
+              ∙ walk-is (c .args .row) xs (c .args .place),
+        ),
+      ),
+    )
 
 pub loop-p-again-then-has : need.loop-p-again-then-has
 loop-p-again-then-has c =
@@ -33,7 +42,7 @@ loop-p-again-then-has c =
     let e : given (partOf (c .in-Some .p)) ≡ stepAt (c .args .octets .now) (c .loop-p .part .place) = search needs in
     let t : c .next .last .self .place ≡ after (stepAt (c .args .octets .now) (c .loop-p .part .place)) (c .loop-p .part .place) = cc in
     let a = ahead-then (i .3 .0) (c .args .row) (c .args .octets .now) (c .loop-p .part .place) (c .loop-p .met) (c .loop-p .walk) (c .add-walk .result) (partOf (c .in-Some .p))
-        (c .name-name .result) (c .next .last .self .place) (i .3 .1 .0) (i .0) e t (h .onward) (c .name-name .ensures) (c .if-has .ensures tt) (c .add-walk .ensures) in
+    (c .name-name .result) (c .next .last .self .place) (i .3 .1 .0) (i .0) e t (h .onward) (c .name-name .ensures) (c .if-has .ensures tt) (c .add-walk .ensures) in
     (search needs, search needs, length-set _ _ _ ∙ i .2, (a .0, (a .1 .0, a .1 .1 ∙ i .3 .1 .1)))
 
 pub loop-p-again : need.loop-p-again
@@ -43,7 +52,7 @@ loop-p-again c =
     let e : given (partOf (c .in-Some .p)) ≡ stepAt (c .args .octets .now) (c .loop-p .part .place) = search needs in
     let t : c .next .last .self .place ≡ after (stepAt (c .args .octets .now) (c .loop-p .part .place)) (c .loop-p .part .place) = cc in
     let a = ahead-else (i .3 .0) (c .args .row) (c .args .octets .now) (c .loop-p .part .place) (c .loop-p .met) (c .loop-p .walk) (partOf (c .in-Some .p))
-        (c .name-name .result) (c .next .last .self .place) (i .3 .1 .0) (i .0) e t (h .onward) (c .name-name .ensures) (c .if-has .ensures tt) in
+    (c .name-name .result) (c .next .last .self .place) (i .3 .1 .0) (i .0) e t (h .onward) (c .name-name .ensures) (c .if-has .ensures tt) in
     (search needs, search needs, i .2, (a .0, (a .1 .0, a .1 .1 ∙ i .3 .1 .1)))
 
 pub returns-in-None : need.returns-in-None

@@ -23,10 +23,11 @@ loop-x-again g c =
     let h : c .loop-x .x-index < length xs = omega arith in
     let e = ap p (c .x-item .is) in
     elim (c .if-asks .came) [
-      then-asks w ↦ w .n-is ∙ ap (λ n. n + 1) (c .loop-x .inv)
-        ∙ sym (countBy-more-yes p xs (c .loop-x .x-index) (c .x-item .result) h (sym e ∙ sym (c .asks .ensures) ∙ w .if-asks .taken))
-    | else-asks w ↦ w .n-is ∙ c .loop-x .inv
-        ∙ sym (countBy-more-no p xs (c .loop-x .x-index) (c .x-item .result) h (sym e ∙ sym (c .asks .ensures) ∙ w .if-asks .left)) ]
+      | then-asks w ↦ w .n-is ∙ ap (λ n. n + 1) (c .loop-x .inv)
+          ∙ sym (countBy-more-yes p xs (c .loop-x .x-index) (c .x-item .result) h (sym e ∙ sym (c .asks .ensures) ∙ w .if-asks .taken))
+      | else-asks w ↦ w .n-is ∙ c .loop-x .inv
+          ∙ sym (countBy-more-no p xs (c .loop-x .x-index) (c .x-item .result) h (sym e ∙ sym (c .asks .ensures) ∙ w .if-asks .left))
+    ]
 
 pub returns : need.returns
 returns g c =

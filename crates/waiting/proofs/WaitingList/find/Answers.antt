@@ -11,14 +11,14 @@ loop-i-holds g c = refl
 pub returns-then-asks : need.returns-then-asks
 returns-then-asks g c =
     sym (first-more (g .Q·Question .fits (c .args .question .now)) (c .elements-elements .result .now) (c .loop-i .i)
-      (c .index-elements-i .result) true (omega arith) (c .index-elements-i .is) (sym (c .if-asks .ensures tt)))
+    (c .index-elements-i .result) true (omega arith) (c .index-elements-i .is) (sym (c .if-asks .ensures tt)))
     ∙ c .loop-i .inv
     ∙ ap (λ l. firstFit (g .Q·Question .fits (c .args .question .now)) l) (c .elements-elements .ensures)
 
 pub loop-i-again : need.loop-i-again
 loop-i-again g c =
     sym (first-more (g .Q·Question .fits (c .args .question .now)) (c .elements-elements .result .now) (c .loop-i .i)
-      (c .index-elements-i .result) false (omega arith) (c .index-elements-i .is) (sym (c .if-asks .ensures tt)))
+    (c .index-elements-i .result) false (omega arith) (c .index-elements-i .is) (sym (c .if-asks .ensures tt)))
     ∙ c .loop-i .inv
 
 pub returns : need.returns

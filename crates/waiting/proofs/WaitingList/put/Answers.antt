@@ -16,7 +16,8 @@ returns g c =
     record {
       answer = sym room;
       after = take-more-set slots held (c .args .x) (omega arith) ∙ sym (ap (λ b. cond b xs (xs ++ (c .args .x ∷ []))) room);
-      room = length-set slots held (c .args .x) }
+      room = length-set slots held (c .args .x);
+    }
 
 pub returns-then-self : need.returns-then-self
 returns-then-self g c =
@@ -25,4 +26,5 @@ returns-then-self g c =
     record {
       answer = sym full;
       after = sym (ap (λ b. cond b xs (xs ++ (c .args .x ∷ []))) full);
-      room = refl }
+      room = refl;
+    }

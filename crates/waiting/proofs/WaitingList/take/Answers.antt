@@ -13,7 +13,8 @@ returns-in-Break-taken g c =
     record {
       answer = c .from-residual .ensures ∙ e;
       after = sym (removed-none (items (c .args .self .now)) (c .args .i) e);
-      room = refl }
+      room = refl;
+    }
 
 pub add-i : need.add-i
 add-i g c =
@@ -37,6 +38,7 @@ returns g c =
     record {
       answer = c .in-Continue-taken .ensures tt;
       after = ap (λ l. take (c .len-held .result - 1) l) (c .copy-within .ensures .after)
-        ∙ closed-up (c .args .self .now .slots .now) (c .args .i) (c .len-held .result) (c .args .self .now .held)
+          ∙ closed-up (c .args .self .now .slots .now) (c .args .i) (c .len-held .result) (c .args .self .now .held)
           (c .len-held .ensures) (omega arith);
-      room = c .copy-within .ensures .len }
+      room = c .copy-within .ensures .len;
+    }

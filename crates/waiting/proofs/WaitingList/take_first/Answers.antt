@@ -15,4 +15,5 @@ returns g c =
     record {
       answer = c .take .ensures .answer ∙ found-answers fits (items (c .args .self .now)) (c .in-Continue-i .i) e;
       after = c .take .ensures .after ∙ found-leaves fits (items (c .args .self .now)) (c .in-Continue-i .i) e;
-      room = c .take .ensures .room }
+      room = c .take .ensures .room;
+    }

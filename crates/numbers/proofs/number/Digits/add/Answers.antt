@@ -10,9 +10,10 @@ use Rattle.numbers.proofs.number.Digits.add.Needs as need
 pub ghost-self : need.ghost-self
 ghost-self c =
     let g = c .args .self .now in
-    let lt : g .count < length (g .digits) = omega (arith, g .whole) in
-    (length-set (g .digits) (g .count) (c .args .digit) ∙ g .whole,
-    (omega arith, (low-set (g .digits) (g .count) (c .args .digit) lt (omega arith) (g .each), (zero-set (g .digits) (g .count) (c .args .digit) (g .rest), tt))))
+    let lt : g .count < length (g .digits) = omega (arith, g .whole) in (
+      length-set (g .digits) (g .count) (c .args .digit) ∙ g .whole,
+      (omega arith, (low-set (g .digits) (g .count) (c .args .digit) lt (omega arith) (g .each), (zero-set (g .digits) (g .count) (c .args .digit) (g .rest), tt))),
+    )
 
 pub returns : need.returns
 returns c =

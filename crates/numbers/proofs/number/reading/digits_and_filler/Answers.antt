@@ -14,7 +14,8 @@ pub returns : need.returns
 returns c =
     let s = c .in-Some .ensures tt in
     let z : getD (unpack (c .args .octets .now)) (c .args .count) 0 ≡ 0 =
-        elim (c .else-count-octets .came)
-        [ else-count-octets·by·then-count-octets·else-digit-at-ne0 w ↦ omega (arith, w .digit-at .ensures)
-        | else-count-octets·by·else-count-octets w ↦ no-filler (c .args .octets .now) (c .args .count) (omega (arith, w .if-count-octets)) ] in
+    elim (c .else-count-octets .came) [
+      | else-count-octets·by·then-count-octets·else-digit-at-ne0 w ↦ omega (arith, w .digit-at .ensures)
+      | else-count-octets·by·else-count-octets w ↦ no-filler (c .args .octets .now) (c .args .count) (omega (arith, w .if-count-octets))
+    ] in
     all-read (c .args .restricted) (c .args .octets .now) (c .args .count) (c .in-Some .number) (s .0) (s .1) z

@@ -27,9 +27,10 @@ loop-k-again c =
     let e : c .digit-at .result ≡ getD halves (c .loop-k .k) 0 = c .digit-at .ensures in
     let u = length-unpack (c .args .octets .now) in
     let h : c .loop-k .k < length halves = omega arith in
-    let a = c .in-Some .ensures tt in
-    (gathered-next (gathered (c .loop-k .all)) (gathered (c .add .last .self)) (c .loop-k .k) (c .digit-at .result) halves h e (c .loop-k .inv .0) (a .0),
-    all-digits-more (c .loop-k .k) halves h (c .loop-k .inv .1) (omega (arith, a .1)))
+    let a = c .in-Some .ensures tt in (
+      gathered-next (gathered (c .loop-k .all)) (gathered (c .add .last .self)) (c .loop-k .k) (c .digit-at .result) halves h e (c .loop-k .inv .0) (a .0),
+      all-digits-more (c .loop-k .k) halves h (c .loop-k .inv .1) (omega (arith, a .1)),
+    )
 
 pub returns : need.returns
 returns c =

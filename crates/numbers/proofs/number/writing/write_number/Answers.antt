@@ -13,5 +13,5 @@ pub returns : need.returns
 returns c =
     let p = c .args .party .now in
     let e : drafted (c .draft .last .draft) ≡ content p =
-        c .draft .ensures ∙ ap (λ (l : List ℕ). cut (l ++ content p)) (c .new-draft .ensures) ∙ cut-short (content p) (omega (arith, content-short p)) in
+    c .draft .ensures ∙ ap (λ (l : List ℕ). cut (l ++ content p)) (c .new-draft .ensures) ∙ cut-short (content p) (omega (arith, content-short p)) in
     subst (λ (l : List ℕ). Written l (c .args .memory .now) (c .write-to .last .memory) (c .write-to .result)) e (c .write-to .ensures)

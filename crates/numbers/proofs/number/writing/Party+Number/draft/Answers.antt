@@ -26,8 +26,8 @@ returns c =
     let os = pack (digitsOf (c .args .self .now .number)) in
     let d = length-digits (c .args .self .now .number) in
     let nature : c .if-self-eq1 .nature ≡ natureOf (length (digitsOf (c .args .self .now .number))) =
-        elim (c .if-self-eq1 .came)
-        [ then-self-eq1 w ↦ grind (arith, tells, w .nature-is, w .if-self-eq1) | else-self-eq1 w ↦ grind (arith, tells, w .nature-is, w .if-self-eq1) ] in
+    elim (c .if-self-eq1 .came)
+    [ then-self-eq1 w ↦ grind (arith, tells, w .nature-is, w .if-self-eq1) | else-self-eq1 w ↦ grind (arith, tells, w .nature-is, w .if-self-eq1) ] in
     let plan : c .if-self .plan ≡ planOf (c .args .self .now .restricted) = search needs in
     let all : take (c .loop-k .k) os ≡ os = take-all (c .loop-k .k) os (omega (arith, c .digit-octets-k-end .ensures .count)) in
     cut-more (drafted (c .args .draft .now)) (drafted (c .push-all .last .self)) (drafted (c .loop-k .draft)) (c .if-self-eq1 .nature ∷ c .if-self .plan ∷ [])
