@@ -1,0 +1,5 @@
+pub mod Pieces
+pub mod Spelling
+pub mod Reading
+pub mod Tellings
+pub mod Asking
