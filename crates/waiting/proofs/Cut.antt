@@ -1,10 +1,10 @@
 -- A list cut at its end, and one element taken out of it.
-use mathlib.Core.Path.{_≡_, refl, sym, ap, _∙_}
+use mathlib.Core.Path.{_≡_, sym, ap, _∙_}
 use mathlib.Core.Bool.{true, false}
-use mathlib.Core.List.{List, [], _∷_, _++_}
+use mathlib.Core.List.{List, _++_}
 use mathlib.Core.Logic.{_⊎_, inl, inr}
 use native.Mathlib.Omega.{arith}
-use Prim.Native.Nat.{ℕ, zero, suc, min, _+_, _-_, _<_, _≤_}
+use Prim.Native.Nat.{ℕ, suc, min, _+_, _-_, _<_, _≤_}
 use lib.ListN.{length, take, drop}
 use lib.Seq.{paste}
 use denote.Ref.{RefT, now}
@@ -15,7 +15,7 @@ use Rattle.std.specs.Finite.{nth}
 use Rattle.std.specs.Holes.{removed}
 use Rattle.std.specs.declared.option.Option.the-variants.{Some, None}
 use Rattle.std.proofs.shelf.Edits.{take-paste}
-use Rattle.std.proofs.shelf.Lists.{drop-take, length-drop, length-take, take-all, take-take}
+use Rattle.std.proofs.shelf.Lists.{append-nil, drop-all, drop-take, length-drop, length-take, take-all, take-take}
 use Rattle.std.proofs.shelf.Maps.{nth-getD, nth-past}
 use Rattle.std.proofs.shelf.Tests.{cases-lt}
 use Rattle.std.proofs.shelf.Ways.{tells}
@@ -43,18 +43,10 @@ pub copied-nth :
 copied-nth xs i None h = sym (nth-past xs i h)
 copied-nth xs i (Some x) h = sym (nth-getD xs i (x .now) (h .0) ∙ ap Some (sym (h .1 (x .now))))
 
--- where there is an element, the place is within the list
-pub nth-within : {X : Type 0} (xs : List X) (i : ℕ) (x : X) → Some x ≡ nth xs i → i < length xs
-nth-within [] i x e = absurd (let z : _≡_ {A = ℕ} 0 1 = cc in omega arith)
-nth-within (y ∷ ys) zero x e = omega arith
-nth-within (y ∷ ys) (suc i) x e = let h = nth-within ys i x e in omega arith
-
--- where there is none, none is removed
-pub removed-none : {X : Type 0} (xs : List X) (i : ℕ) → None ≡ nth xs i → removed xs i ≡ xs
-removed-none [] zero e = refl
-removed-none [] (suc i) e = refl
-removed-none (y ∷ ys) zero e = absurd (let z : _≡_ {A = ℕ} 0 1 = cc in omega arith)
-removed-none (y ∷ ys) (suc i) e = ap (λ l. y ∷ l) (removed-none ys i e)
+-- past the end none is removed
+pub removed-past : {X : Type 0} (xs : List X) (i : ℕ) → length xs ≤ i → removed xs i ≡ xs
+removed-past xs i h =
+    ap (λ l. l ++ drop (suc i) xs) (take-all i xs h) ∙ ap (λ l. xs ++ l) (drop-all (suc i) xs (omega arith)) ∙ append-nil xs
 
 -- the elements behind place i moved up by one: the list without that place's
 pub closed-up :

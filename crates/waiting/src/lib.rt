@@ -91,13 +91,14 @@ impl<'a, T: Copy> WaitingList<'a, T> {
     {
         self.elements().get(i).copied()
     }
+
     // The place of the first element that fits a question.
     pub fn find<Q: Question<T>>(&self, question: &Q) -> Option<usize>
         ensures { λ r. ⌜ r ≡ firstFit (Q·Question .fits (now (question .entry))) (items (now (self .entry))) ⌝ }
     {
         let elements = self.elements();
-        for (i, x) in elements.iter().enumerate() {
-            if question.asks(*x) {
+        for i in 0..elements.len() {
+            if question.asks(elements[i]) {
                 return Some(i);
             }
         }
@@ -124,11 +125,14 @@ impl<'a, T: Copy> WaitingList<'a, T> {
         ensures after { λ _. ⌜ items (now (self .exit)) ≡ removed (items (now (self .entry))) i ⌝ }
         ensures room { λ _. ⌜ places (now (self .exit)) ≡ places (now (self .entry)) ⌝ }
     {
-        let taken = self.get(i)?;
         let held = self.len();
+        if i >= held {
+            return None;
+        }
+        let taken = self.get(i);
         self.slots.copy_within(i + 1..held, i);
         self.held = held - 1;
-        Some(taken)
+        taken
     }
 
     // The first element that fits a question.
