@@ -3,11 +3,11 @@ ghost use Rattle.script.specs.Answers.{answer as answerOf, answerText, message
 ghost use Rattle.script.specs.Lines.{asked};
 ghost use Rattle.std.specs.declared.option.Option.the-variants.{Some};
 ghost use mathlib.Core.Path.{_≡_};
+use crate::display::NumberDisplay;
+use crate::display::OnCircuit;
+use crate::display::OnCircuitDisplay;
+use crate::display::Text;
 use crate::line::Line;
-use crate::texts::NumberDisplay;
-use crate::texts::OnCircuit;
-use crate::texts::OnCircuitDisplay;
-use crate::texts::Text;
 use decode::fault::MessageFault;
 use decode::reading::read;
 use isup::message::Circuit;

@@ -1,12 +1,12 @@
 // The lines of a rehearsal script: what each says, and what it answers.
 mod answer;
 mod arguments;
+mod display;
 mod line;
 mod program;
 mod report;
-mod text;
-mod texts;
 mod transcript;
+mod words;
 
 pub use answer::Answer;
 pub use answer::AnswerDisplay;
@@ -18,17 +18,12 @@ pub use arguments::source_of;
 pub use line::Line;
 pub use line::LineError;
 pub use line::LineErrorDisplay;
-pub use line::LineErrorFromAlloc;
-pub use line::LineErrorFromRefused;
 pub use line::parse;
 pub use program::USAGE;
 pub use program::run;
-pub use report::CallCounts;
 pub use report::LineCounts;
-pub use report::Report;
-pub use report::ReportDisplay;
-pub use text::octets;
 pub use transcript::Reply;
 pub use transcript::Transcript;
 pub use transcript::rehearse;
 pub use transcript::reply_to;
+pub use words::octets;

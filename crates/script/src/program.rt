@@ -1,4 +1,8 @@
 // What the programs over scripts share.
+ghost use Rattle.script.specs.Transcripts.{toldOf};
+ghost use Rattle.std.specs.Text.{Utf8};
+ghost use Rattle.std.specs.Vec.{made};
+ghost use mathlib.Core.Path.{_≡_};
 use crate::transcript::Transcript;
 use crate::transcript::rehearse;
 use std::error::AnyError;
@@ -16,7 +20,9 @@ OCTETS are pairs of hexadecimal digits, in one word or several.
 ";
 
 // Carries out a script and writes what it answers. It fails where a line was none of the script's.
-pub fn run(rt: &LibcRuntime, script: &[u8]) -> Result<(), AnyError> {
+pub fn run(rt: &LibcRuntime, script: &[u8]) -> Result<(), AnyError>
+    ensures { λ r. ⌜ made r (λ _. Utf8 (now (script .entry)) → toldOf (now (script .entry)) .lines-counted .errors ≡ 0) ⌝ }
+{
     let heap = rt.alloc();
     let script = String::from_utf8_lossy(heap, script)?;
     let Transcript { text, lines } = rehearse(heap, script.as_str())?;

@@ -31,7 +31,7 @@ pub struct Report {
 
 impl LineCounts {
     // No line yet.
-    pub fn none() -> LineCounts
+    pub(crate) fn none() -> LineCounts
         ensures { λ r. ⌜ r ≡ noLines ⌝ }
     {
         LineCounts {
@@ -44,7 +44,7 @@ impl LineCounts {
 
 impl Report {
     // The report of a script without calls.
-    pub fn of_lines(lines: LineCounts) -> Report
+    pub(crate) fn of_lines(lines: LineCounts) -> Report
         ensures { λ r. ⌜ r ≡ reportOf lines ⌝ }
     {
         let calls = CallCounts {

@@ -1,11 +1,9 @@
 // What a whole script answers: its lines one by one, then the report.
-ghost use Rattle.script.specs.Answers.{answer};
 ghost use Rattle.script.specs.Lines.{meaning};
 ghost use Rattle.script.specs.Texts.{errorText};
 ghost use Rattle.script.specs.Transcripts.{adding, answerLine, errorLine, replyTo, said, toldBy, toldOf, transcript as transcriptOf};
 ghost use Rattle.script.specs.declared.line.LineError.the-variants.{Memory as memory};
 ghost use Rattle.std.specs.Of.String.{string-bytes};
-ghost use Rattle.std.specs.Results.{Cases};
 ghost use Rattle.std.specs.Vec.{made};
 ghost use mathlib.Core.Path.{_≡_};
 use crate::answer::Answer;

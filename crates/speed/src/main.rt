@@ -27,17 +27,18 @@ fn read_times(octets: &mut [u8], count: u64) -> u64 {
     accepted
 }
 
-// The sum of the octets written; the call changes with each writing, so that none can be left out.
-fn write_times(message: &Message, count: u64) -> u64 {
-    let mut memory = [0u8; 64];
+// The sum of the counts and first octets written; the call changes with each writing, so that none can be left out.
+fn write_times(message: &Message, memory: &mut [u8], count: u64) -> u64 {
     let mut sum: u64 = 0;
     for k in 0..count {
         let Some(circuit) = Circuit::new((k % 64) as u8, 0) else {
             return sum;
         };
-        if let Ok(len) = write(circuit, message, &mut memory) {
-            sum = sum.saturating_add(len as u64)
-                .saturating_add(memory[0] as u64);
+        if let Ok(len) = write(circuit, message, memory) {
+            sum = sum.saturating_add(len as u64);
+        }
+        if let Some(first) = memory.first() {
+            sum = sum.saturating_add(*first as u64);
         }
     }
     sum
@@ -55,11 +56,13 @@ fn time_reading(rt: &LibcRuntime, octets: &mut [u8], count: u64) -> Result<(), A
 }
 
 fn time_writing(rt: &LibcRuntime, octets: &[u8], count: u64) -> Result<(), AnyError> {
-    let Ok((_, message)) = read(octets) else {
+    let Ok(found) = read(octets) else {
         return Err("the octets are no message".into());
     };
+    let (_, message) = found;
+    let mut memory = [0u8; 64];
     let start = Instant::now(rt)?;
-    let sum = write_times(&message, count);
+    let sum = write_times(&message, &mut memory, count);
     let each = start.elapsed(rt)?.as_nanos() / count.max(1) as u128;
     if sum == 0 {
         return Err("nothing was written".into());
