@@ -3,3 +3,4 @@ pub mod Halves
 pub mod Gathers
 pub mod Same
 pub mod Contents
+pub mod Compares

@@ -3,3 +3,4 @@ pub mod Digits
 pub mod Gathering
 pub mod Reading
 pub mod Drafts
+pub mod Comparing

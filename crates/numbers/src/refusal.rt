@@ -8,6 +8,10 @@ pub enum Refusal {
     TooShort,
     // A part is outside its range, does not belong there, or lacks its companions.
     OutOfRange,
+    // Too few cells of the option store are free.
+    NoFreeCell,
+    // None of the cells that are to be emptied is held.
+    NotHeld,
     // As many wait on the carrier as it has room for.
     Full,
 }
@@ -20,6 +24,8 @@ impl Refusal {
         match self {
             Refusal::TooShort => 9,
             Refusal::OutOfRange => 10,
+            Refusal::NoFreeCell => 11,
+            Refusal::NotHeld => 12,
             Refusal::Full => 15,
         }
     }
