@@ -1,9 +1,10 @@
 -- What a waiting list means, and what is found in a list.
-use mathlib.Core.Bool.{Bool, cond}
+use mathlib.Core.Bool.{Bool, cond, not}
 use mathlib.Core.List.{List, [], _∷_, _++_}
 use Prim.Native.Nat.{ℕ, _+_}
 use lib.Dec.{eqb}
 use lib.ListN.{length, take}
+use Rattle.std.specs.shelf.Lists.{kept-by}
 use Rattle.std.specs.declared.option.Option.{Option}
 use Rattle.std.specs.declared.option.Option.the-variants.{Some, None}
 use Rattle.waiting.specs.declared.WaitingList.{WaitingList}
@@ -42,3 +43,7 @@ earliest p (x ∷ xs) = cond (p x) (Some x) (earliest p xs)
 abbrev pub withoutEarliest : {X : Type 0} → (X → Bool) → List X → List X
 withoutEarliest p [] = []
 withoutEarliest p (x ∷ xs) = cond (p x) xs (x ∷ withoutEarliest p xs)
+
+-- the list without all that fit
+abbrev pub others : {X : Type 0} → (X → Bool) → List X → List X
+others p xs = kept-by (λ x. not (p x)) xs

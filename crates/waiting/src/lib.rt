@@ -8,7 +8,7 @@ ghost use Rattle.std.specs.Finite.{nth};
 ghost use Rattle.std.specs.Holes.{removed};
 ghost use Rattle.std.specs.Results.{isErr};
 ghost use Rattle.std.specs.shelf.Lists.{countBy};
-ghost use Rattle.waiting.specs.Items.{items, places, isFull, added, firstFit, earliest, withoutEarliest};
+ghost use Rattle.waiting.specs.Items.{items, places, isFull, added, firstFit, earliest, withoutEarliest, others};
 
 // The list is the front of the memory. What stands in the places behind it is open.
 #[derive(Drop)]
@@ -151,6 +151,14 @@ impl<'a, T: Copy> WaitingList<'a, T> {
     {
         let i = self.find(question)?;
         self.take(i)
+    }
+
+    // Takes every element that fits a question out; the others keep their order.
+    pub fn take_all<Q: Question<T>>(&mut self, question: &Q)
+        ensures after { λ _. ⌜ items (now (self .exit)) ≡ others (Q·Question .fits (now (question .entry))) (items (now (self .entry))) ⌝ }
+        ensures room { λ _. ⌜ places (now (self .exit)) ≡ places (now (self .entry)) ⌝ }
+    {
+        while self.take_first(question).is_some() {}
     }
 }
 
