@@ -18,7 +18,8 @@ tested xs ys r h = search (needs, sameBytes-decides)
 pub compared : (a b : Number) (r : Bool) → Decides r (digitsOf a ≡ digitsOf b) → Compared a b r
 compared a b r h = record {
   by-digits = tested (digitsOf a) (digitsOf b) r h;
-  tells = (λ t. equal-digits a b (h .0 t), λ q. h .1 (ap digitsOf q)) }
+  tells = (λ t. equal-digits a b (h .0 t), λ q. h .1 (ap digitsOf q));
+}
 
 pub same-decides : (a b : Number) → Decides (sameNumber a b) (a ≡ b)
 same-decides a b =

@@ -19,9 +19,10 @@ loop-less g c =
 
 pub loop-again : need.loop-again
 loop-again g c =
-    let p = g .Q·Question .fits (c .args .question .now) in
-    ( ap (others p) (c .take-first .ensures .after) ∙ others-less p (items (c .loop .self)) ∙ c .loop .inv .0,
-      c .take-first .ensures .room ∙ c .loop .inv .1 )
+    let p = g .Q·Question .fits (c .args .question .now) in (
+      ap (others p) (c .take-first .ensures .after) ∙ others-less p (items (c .loop .self)) ∙ c .loop .inv .0,
+      c .take-first .ensures .room ∙ c .loop .inv .1,
+    )
 
 pub returns : need.returns
 returns g c =
@@ -29,5 +30,6 @@ returns g c =
     let none = sym (ap isSome (c .take-first .ensures .answer)) ∙ sym (c .is-some .ensures) ∙ c .loop-test .left in
     record {
       after = c .take-first .ensures .after ∙ whole p (items (c .loop .self)) none
-        ∙ sym (others-all p (items (c .loop .self)) none) ∙ c .loop .inv .0;
-      room = c .take-first .ensures .room ∙ c .loop .inv .1 }
+          ∙ sym (others-all p (items (c .loop .self)) none) ∙ c .loop .inv .0;
+      room = c .take-first .ensures .room ∙ c .loop .inv .1;
+    }
