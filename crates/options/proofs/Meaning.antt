@@ -64,7 +64,7 @@ same-service : (a b : Service) → sameService a b ≡ true → a ≡ b
 same-service a b t = sym (service-again a) ∙ ap serviceAt (eqb-true (serviceCode a) (serviceCode b) t) ∙ service-again b
 
 -- a cell that fits a question of one number, service and kind is meant by a change exactly where these are
-fits-covers :
+pub fits-covers :
     (number : Number) (services : Services) (kind : Kind) (n : Number) (s : Service) (k : Kind) (x : Cell) →
     isDiversion n (One s) k x ≡ true → isDiversion number services kind x ≡ covers number services kind n s k
 fits-covers number services kind n s k (Diversion m t j r) e =
@@ -146,18 +146,18 @@ marked-without cells number = record {
   single = single-without (isWithheld number) cells;
 }
 
-both-ways : (u v : Bool) → (u ≡ true → v ≡ true) → (v ≡ true → u ≡ true) → u ≡ v
+pub both-ways : (u v : Bool) → (u ≡ true → v ≡ true) → (v ≡ true → u ≡ true) → u ≡ v
 both-ways true v f g = sym (f refl)
 both-ways false true f g = g refl
 both-ways false false f g = refl
 
-same-sym : (a b : Number) → sameNumber a b ≡ sameNumber b a
+pub same-sym : (a b : Number) → sameNumber a b ≡ sameNumber b a
 same-sym a b =
     both-ways (sameNumber a b) (sameNumber b a)
     (λ t. same-decides b a .1 (sym (same-decides a b .0 t)))
     (λ t. same-decides a b .1 (sym (same-decides b a .0 t)))
 
-or-none : {X : Type 0} (o : Option X) → orElse o None ≡ o
+pub or-none : {X : Type 0} (o : Option X) → orElse o None ≡ o
 or-none None = refl
 or-none (Some x) = refl
 

@@ -2,8 +2,8 @@
 use mathlib.Core.Bool.{Bool, true, false, cond, _&&_}
 use mathlib.Core.List.{List, [], _∷_}
 use mathlib.Core.Path.{_≡_}
-use Prim.Native.Nat.{ℕ, _+_, _≤_}
-use lib.Dec.{eqb}
+use Prim.Native.Nat.{ℕ, _+_, _-_, _≤_}
+use lib.Dec.{eqb, ltb}
 use lib.ListN.{length}
 use Rattle.std.specs.Options.{isSome}
 use Rattle.std.specs.shelf.Lists.{countBy}
@@ -12,9 +12,10 @@ use Rattle.std.specs.declared.result.Result.the-variants.{Ok, Err}
 use Rattle.std.specs.declared.option.Option.{Option}
 use Rattle.std.specs.declared.option.Option.the-variants.{Some, None}
 use Rattle.isup.specs.declared.message.Service.{Service}
+use Rattle.isup.specs.declared.message.Service.the-variants.{Speech, Digital64, Audio}
 use Rattle.numbers.specs.declared.number.Number.{Number}
 use Rattle.numbers.specs.declared.refusal.Refusal.{Refusal}
-use Rattle.numbers.specs.declared.refusal.Refusal.the-variants.{NoFreeCell, NotHeld}
+use Rattle.numbers.specs.declared.refusal.Refusal.the-variants.{OutOfRange, NoFreeCell, NotHeld}
 use Rattle.numbers.specs.Comparing.{sameNumber}
 use Rattle.waiting.specs.Items.{earliest, isFull}
 use Rattle.options.specs.declared.record.Kind.{Kind}
@@ -23,7 +24,7 @@ use Rattle.options.specs.declared.record.Services.{Services}
 use Rattle.options.specs.declared.record.Services.the-variants.{One, All}
 use Rattle.options.specs.declared.cells.Cell.{Cell}
 use Rattle.options.specs.declared.cells.Cell.the-variants.{Diversion, Withheld}
-use Rattle.options.specs.Records.{serves, sameKind}
+use Rattle.options.specs.Records.{serves, serviceCount, sameKind}
 
 -- whether a number, a service and a kind are among those meant
 abbrev pub covers : Number → Services → Kind → Number → Service → Kind → Bool
@@ -83,3 +84,19 @@ deactivateAnswer cells number services kind =
 -- withholding is refused exactly where it needs a cell and none is free
 abbrev pub withholdAnswer : ℕ → List Cell → Number → Result (Unit {0}) Refusal
 withholdAnswer room cells number = cond (withheldIn cells number) (Ok tt) (cond (isFull room cells) (Err NoFreeCell) (Ok tt))
+
+-- the cells of a record: one for each service
+abbrev pub newCells : Number → Services → Kind → Record Number → List Cell
+newCells number (One s) kind r = Diversion number s kind r ∷ []
+newCells number All kind r =
+    Diversion number Speech kind r ∷ Diversion number Digital64 kind r ∷ Diversion number Audio kind r ∷ []
+
+-- whether fewer cells are free than are needed besides those replaced
+abbrev pub tooFew : ℕ → List Cell → Number → Services → Kind → Bool
+tooFew room cells number services kind =
+    ltb (room - length cells) (serviceCount services - countBy (isDiversion number services kind) cells)
+
+-- activating is refused where there is no such record, and then exactly where too few cells are free
+abbrev pub activateAnswer : Option (Record Number) → Bool → Result (Unit {0}) Refusal
+activateAnswer None few = Err OutOfRange
+activateAnswer (Some r) few = cond few (Err NoFreeCell) (Ok tt)

@@ -1,14 +1,15 @@
 // The store that holds its options in lent cells.
 ghost use mathlib.Core.Bool.{true, false, cond};
-ghost use mathlib.Core.List.{[]};
+ghost use mathlib.Core.List.{[], _∷_, _++_};
 ghost use mathlib.Core.Path.{_≡_};
-ghost use Prim.Native.Nat.{min, _+_};
+ghost use Prim.Native.Nat.{min, _+_, _<_, _≤_};
 ghost use lib.ListN.{length};
 ghost use Rattle.std.specs.declared.option.Option.the-variants.{Some, None};
 ghost use Rattle.std.specs.Results.{Cases};
 ghost use Rattle.std.specs.shelf.Lists.{countBy};
 ghost use Rattle.waiting.specs.Items.{items, places};
-ghost use Rattle.options.specs.Cells.{recordIn, heldIn, withheldIn, isWithheld, Diverted, Marked, deactivateAnswer, withholdAnswer};
+ghost use Rattle.options.specs.Cells.{recordIn, heldIn, withheldIn, isWithheld, Diverted, Marked, activateAnswer, tooFew, newCells, deactivateAnswer, withholdAnswer};
+ghost use Rattle.options.specs.Records.{recordOf, serviceCount};
 use super::question::CellOfDiversions;
 use super::question::CellOfWithholding;
 use super::question::Diversions;
@@ -79,6 +80,82 @@ impl<'a> CellStore<'a> {
         ensures { λ r. ⌜ r + length (items (now (self .entry) .list)) ≡ places (now (self .entry) .list) ⌝ }
     {
         self.list.free()
+    }
+
+    // Holds a record for the number, the services and the kind, in place of what is held for them. The option is 1 to 3, the
+    // release mark 0 or 1. Refused for these, and then exactly where fewer cells are free than are needed besides those replaced.
+    pub fn activate(
+        &mut self,
+        number: Number,
+        services: Services,
+        kind: Kind,
+        target: Number,
+        option: u8,
+        mark: u8,
+    ) -> Result<(), Refusal>
+        ensures answer { λ r. ⌜ r ≡ activateAnswer (recordOf target option mark) (tooFew (places (now (self .entry) .list)) (items (now (self .entry) .list)) number services kind) ⌝ }
+        ensures after { λ r. ⌜ Cases r (λ _. Diverted (items (now (self .entry) .list)) (items (now (self .exit) .list)) number services kind (recordOf target option mark) (serviceCount services)) (λ _. items (now (self .exit) .list) ≡ items (now (self .entry) .list)) ⌝ }
+        ensures room { λ _. ⌜ places (now (self .exit) .list) ≡ places (now (self .entry) .list) ⌝ }
+    {
+        let Some(record) = Record::from_numbers(target, option, mark) else {
+            return Err(Refusal::OutOfRange);
+        };
+        let question = Diversions {
+            number,
+            services,
+            kind,
+        };
+        let needed = services.count().saturating_sub(self.list.count(&question));
+        if self.list.free() < needed {
+            return Err(Refusal::NoFreeCell);
+        }
+        self.list.take_all(&question);
+        self.fill(number, services, kind, record);
+        Ok(())
+    }
+
+    // Fills a cell for each of the services.
+    fn fill(&mut self, number: Number, services: Services, kind: Kind, record: Record)
+        requires { ⌜ length (items (now self .list)) + serviceCount services ≤ places (now self .list) ⌝ }
+        ensures after { λ _. ⌜ items (now (self .exit) .list) ≡ items (now (self .entry) .list) ++ newCells number services kind «record» ⌝ }
+        ensures room { λ _. ⌜ places (now (self .exit) .list) ≡ places (now (self .entry) .list) ⌝ }
+    {
+        match services {
+            Services::One(service) => self.fill_one(Cell::Diversion {
+                number,
+                service,
+                kind,
+                record,
+            }),
+            Services::All => {
+                self.fill_one(Cell::Diversion {
+                    number,
+                    service: Service::Speech,
+                    kind,
+                    record,
+                });
+                self.fill_one(Cell::Diversion {
+                    number,
+                    service: Service::Digital64,
+                    kind,
+                    record,
+                });
+                self.fill_one(Cell::Diversion {
+                    number,
+                    service: Service::Audio,
+                    kind,
+                    record,
+                });
+            }
+        }
+    }
+
+    fn fill_one(&mut self, cell: Cell)
+        requires { ⌜ length (items (now self .list)) < places (now self .list) ⌝ }
+        ensures after { λ _. ⌜ items (now (self .exit) .list) ≡ items (now (self .entry) .list) ++ (cell ∷ []) ⌝ }
+        ensures room { λ _. ⌜ places (now (self .exit) .list) ≡ places (now (self .entry) .list) ⌝ }
+    {
+        let _ = self.list.put(cell);
     }
 
     // Takes back what is held for the number, the services and the kind; refused where none of it is held.
