@@ -25,6 +25,6 @@ returns g c =
     record {
       answer = c .get-taken .ensures;
       after = ap (take (n - 1)) (c .copy-within .ensures .after)
-        ∙ closed-up (c .args .self .now .slots .now) (c .args .i) n (c .args .self .now .held) (c .len-held .ensures) (omega arith);
+          ∙ closed-up (c .args .self .now .slots .now) (c .args .i) n (c .args .self .now .held) (c .len-held .ensures) (omega arith);
       room = c .copy-within .ensures .len;
     }
