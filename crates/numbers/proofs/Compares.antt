@@ -1,5 +1,5 @@
 -- Comparing the digits compares the numbers.
-use Rattle.std.proofs.Common.{◌≡◌, ℕ, Bool, List, Decides, sym, ap, ◌∙◌, rules}
+use Rattle.std.proofs.Common.{◌≡◌, ℕ, Bool, List, Decides, ap, rules}
 use Rattle.std.specs.Str.{bytes_eq}
 use Rattle.std.proofs.lemmas.Slice.Eq.{bytes_eq-Decides}
 use Rattle.numbers.specs.declared.number.Number.{Number}

@@ -1,16 +1,15 @@
 -- The content of a number is read as that number, and nothing else is read.
-use Rattle.std.proofs.Common.{◌≡◌, ℕ, zero, suc, ◌+◌, ◌-◌, ◌*◌, ◌/◌, ◌%◌, ◌<◌, ◌≤◌, Bool, true, false, cond, ◌&&◌, eqb, ltb, leb, ◌⊎◌, List, [], ◌∷◌, length, get_or, take, drop, Ok, Err, Result, sym, refl, ap, ◌∙◌, subst, inl, inr, arith}
+use Rattle.std.proofs.Common.{◌≡◌, ℕ, zero, suc, ◌+◌, ◌-◌, ◌*◌, ◌/◌, ◌%◌, ◌≤◌, Bool, true, false, cond, ◌&&◌, eqb, ltb, leb, ◌⊎◌, List, [], ◌∷◌, length, get_or, take, drop, Ok, Err, Result, sym, refl, ap, ◌∙◌, subst, inl, inr, arith}
 use Rattle.std.proofs.lemmas.List.{length-take-le, length-drop, length-take, get_or_past, get_or-take}
 use Rattle.std.proofs.lemmas.Bool.Decides.{nat_tests, eqb_tells, leb_tells}
 use Rattle.std.proofs.lemmas.Bool.{and_parts, leb-true, cond-true, cond-false, eq-eqb, eqb-true, ltb-false, cases_lt}
 use Rattle.numbers.specs.declared.number.Number.{Number}
 use Rattle.numbers.specs.declared.number.Party.{Party}
-use Rattle.numbers.specs.declared.number.NumberFault.{NumberFault}
 use Rattle.numbers.specs.declared.number.NumberFault.TheVariants.{Count, Digit, Filler, NatureOrPlan}
-use Rattle.numbers.specs.Digits.{digits_of, number_of, Lawful, pack, content, nature_of, plan_of}
+use Rattle.numbers.specs.Digits.{digits_of, number_of, pack, content, nature_of, plan_of}
 use Rattle.numbers.specs.Reading.{unpack, all_digits, count_in, read_digits, read_number, NumberCoded, OneNumberToACoding}
 use Rattle.numbers.proofs.Halves.{length-unpack, below}
-use Rattle.numbers.proofs.Same.{digits_again, number_again, lawful_digits, length_digits}
+use Rattle.numbers.proofs.Same.{digits_again, number_again, lawful_digits}
 
 -- a chain of tests that came out as Ok passed each
 pub passed : {A E : Type 0} (b : Bool) (x : A) (f : E) (r : Result A E) → cond b r (Err f) ≡ Ok x → (b ≡ true) × (r ≡ Ok x)

@@ -1,7 +1,6 @@
 -- A number by its digits, and its content octets.
-use Rattle.std.specs.Prelude.{◌≡◌, ℕ, zero, suc, ◌+◌, ◌*◌, ◌/◌, ◌%◌, ◌≤◌, min, max, Bool, true, false, cond, List, [], ◌∷◌, length, take, ◌==◌, slice_index, refl}
-use Rattle.std.proofs.Common.{ap, inl, inr, arith}
-use Rattle.std.proofs.lemmas.Bool.{cases_lt}
+use Rattle.std.specs.Prelude.{◌≡◌, ℕ, zero, suc, ◌+◌, ◌*◌, ◌%◌, ◌≤◌, min, max, Bool, false, cond, List, [], ◌∷◌, length, take, ◌==◌, slice_index, refl}
+use Rattle.std.proofs.Common.{ap, arith}
 use Rattle.numbers.specs.declared.number.Number.{Number}
 use Rattle.numbers.specs.declared.number.Party.{Party}
 

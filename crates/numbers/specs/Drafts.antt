@@ -2,7 +2,7 @@
 use Rattle.std.specs.Prelude.{◌≡◌, ℕ, ◌<◌, List, ◌++◌, length, take, drop, Ok, Err, Result}
 use Rattle.numbers.specs.declared.draft.Draft.{Draft}
 use Rattle.numbers.specs.declared.refusal.Refusal.{Refusal}
-use Rattle.numbers.specs.declared.refusal.Refusal.TheVariants.{TooShort, OutOfRange}
+use Rattle.numbers.specs.declared.refusal.Refusal.TheVariants.{TooShort}
 
 -- the octets drafted so far
 abbrev pub drafted : Draft → List ℕ

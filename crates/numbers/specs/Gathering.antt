@@ -1,5 +1,5 @@
 -- Digits that are gathered one by one.
-use Rattle.std.specs.Prelude.{◌≡◌, ℕ, ◌<◌, ◌≤◌, ◌⊎◌, List, [], ◌∷◌, ◌++◌, length, take, Some, None, Option}
+use Rattle.std.specs.Prelude.{◌≡◌, ℕ, ◌≤◌, List, [], ◌∷◌, ◌++◌, length, take, Some, None, Option}
 use Rattle.numbers.specs.declared.number.Digits.{Digits}
 
 abbrev pub gathered : Digits → List ℕ

@@ -1,5 +1,5 @@
 -- A list cut at its end, and one element taken out of it.
-use Rattle.std.proofs.Common.{◌≡◌, ℕ, suc, ◌+◌, ◌-◌, ◌<◌, ◌≤◌, min, true, false, ◌⊎◌, List, ◌++◌, length, take, drop, Some, None, Option, sym, ap, ◌∙◌, inl, inr, arith, Bor, MatchOption}
+use Rattle.std.proofs.Common.{◌≡◌, ℕ, suc, ◌+◌, ◌-◌, ◌<◌, ◌≤◌, min, true, false, List, ◌++◌, length, take, drop, Some, None, Option, sym, ap, ◌∙◌, inl, inr, arith, Bor, MatchOption}
 use lib.Seq.{paste}
 use Rattle.std.specs.Option.{option_map}
 use Rattle.std.specs.List.{HoldsAt, slice_get, remove}

@@ -1,5 +1,5 @@
 -- The list without all that fit: what taking the first of them leaves of it.
-use Rattle.std.proofs.Common.{◌≡◌, ℕ, suc, ◌<◌, Bool, true, false, cond, not, List, [], ◌∷◌, length, is_some, Some, sym, refl, ap, ◌∙◌, arith}
+use Rattle.std.proofs.Common.{◌≡◌, ℕ, ◌<◌, Bool, true, false, cond, not, List, [], ◌∷◌, length, is_some, Some, sym, refl, ap, ◌∙◌, arith}
 use Rattle.waiting.specs.Items.{earliest, without_earliest, others}
 
 less_by :

@@ -1,4 +1,6 @@
 // A list of elements of one kind, kept in their order in lent memory.
+#![tactic(auto)]
+
 ghost use Rattle.std.specs.Prelude.{◌≡◌, ◌+◌, min, Bool, [], length, is_err, count_by};
 ghost use Rattle.std.specs.List.{slice_get, remove};
 ghost use Rattle.waiting.specs.Items.{items, places, is_full, added, first_fit, earliest, without_earliest, others};

@@ -1,17 +1,20 @@
 // Comparing two numbers.
-ghost use Rattle.numbers.specs.Comparing.{Compared};
+ghost use Rattle.std.specs.Prelude.{◌≡◌};
 ghost use Rattle.std.specs.Cmp.Rules.{comparing};
-ghost use Rattle.std.proofs.Common.{rules, arith};
+ghost use Rattle.std.proofs.Common.{rules};
+ghost use Rattle.numbers.specs.Comparing.{Compared, same_number};
 
 use super::Number;
 
 // True exactly where the two are the same number.
 impl PartialEq for Number {
-    ghost equals = { λ a b r. Compared a b r };
+    ghost eq = { same_number };
 
-    ghost laws = { first_of (Prim.search (comparing, rules), Prim.grind (arith, Self.row.coded.inj)) };
+    ghost laws = { Prim.search (comparing, rules) };
 
-    fn eq(&self, other: &Number) -> bool {
+    fn eq(&self, other: &Number) -> bool
+        ensures { Compared self.now other.now result }
+    {
         self.digits() == other.digits()
     }
 }

@@ -1,11 +1,11 @@
-use Rattle.std.proofs.Common.{◌≡◌, ◌+◌, ◌<◌, true, false, length, take, count_by, sym, refl, ap, ◌∙◌, arith}
+use Rattle.std.proofs.Common.{◌+◌, ◌<◌, length, take, count_by, sym, ap, ◌∙◌, arith}
 use Rattle.std.proofs.lemmas.List.{length-take, take_all}
 use Rattle.std.proofs.lemmas.List.Sums.{count_by-le-length, count_by_more_yes, count_by_more_no}
 use Rattle.waiting.proofs.WaitingList.count.Goals as goal
 use Rattle.waiting.proofs.WaitingList.count.Goals.{then-asks, else-asks}
 
-pub overflow-add-n : goal.overflow-add-n
-overflow-add-n g c =
+pub overflow_add-n : goal.overflow_add-n
+overflow_add-n g c =
     let front = take c.loop-x.x-index c.elements-elements.result.now in
     let few = count_by-le-length (g.Q.Question.fits c.args.question.now) front in
     let cut = length-take c.loop-x.x-index c.elements-elements.result.now in

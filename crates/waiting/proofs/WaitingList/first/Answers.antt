@@ -1,14 +1,14 @@
-use Rattle.std.proofs.Common.{sym, ◌∙◌}
+use Rattle.std.proofs.Common.{◌∙◌}
 use Rattle.waiting.specs.Items.{items}
 use Rattle.waiting.proofs.First.{found_answers, missing}
 use Rattle.waiting.proofs.WaitingList.first.Goals as goal
 
-pub returns-in-err-i : goal.returns-in-err-i
-returns-in-err-i g c =
-    c.from-residual.ensures
-    ∙ (missing (g.Q.Question.fits c.args.question.now) (items c.args.self.now) 0 c.in-err-i.ensures).answers
+pub returns-in_err-i : goal.returns-in_err-i
+returns-in_err-i g c =
+    c.from_residual.ensures
+    ∙ (missing (g.Q.Question.fits c.args.question.now) (items c.args.self.now) 0 c.in_err-i.ensures).answers
 
 pub returns : goal.returns
 returns g c =
     c.get.ensures
-    ∙ found_answers (g.Q.Question.fits c.args.question.now) (items c.args.self.now) c.in-ok-i.i c.in-ok-i.ensures
+    ∙ found_answers (g.Q.Question.fits c.args.question.now) (items c.args.self.now) c.in_ok-i.i c.in_ok-i.ensures

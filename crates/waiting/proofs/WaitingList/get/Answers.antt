@@ -6,5 +6,5 @@ use Rattle.waiting.proofs.WaitingList.get.Goals as goal
 pub returns : goal.returns
 returns g c =
     c.copied.ensures
-    ∙ copied_nth c.elements.result.now c.args.i c.get.result c.get.ensures.finds.3
+    ∙ copied_nth c.elements.result.now c.args.i c.get.result c.get.ensures.lookup.3
     ∙ ap (λ l. slice_get l c.args.i) c.elements.ensures

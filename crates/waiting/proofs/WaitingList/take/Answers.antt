@@ -11,17 +11,17 @@ returns-then-i-held g c =
     let past : length xs ≤ c.args.i = omega arith in
     record { answer = sym (slice_get_past xs c.args.i past); after = sym (removed_past xs c.args.i past); room = refl }
 
-pub copy-within-requires : goal.copy-within-requires
-copy-within-requires g c =
+pub copy_within-requires : goal.copy_within-requires
+copy_within-requires g c =
     let n = length-take c.args.self.now.held c.args.self.now.slots.now in
-    record { start-le-end = omega arith; in_bounds = omega arith; dest-in-bounds = omega arith; not-exhausted = tt }
+    record { start_le_end = omega arith; in_bounds = omega arith; dest_in_bounds = omega arith; not_exhausted = tt }
 
 pub returns : goal.returns
 returns g c =
     let n = c.len-held.result in
     record {
       answer = c.get-taken.ensures;
-      after = ap (take (n - 1)) c.copy-within.ensures.after
+      after = ap (take (n - 1)) c.copy_within.ensures.after
           ∙ closed_up c.args.self.now.slots.now c.args.i n c.args.self.now.held c.len-held.ensures (omega arith);
-      room = c.copy-within.ensures.len;
+      room = c.copy_within.ensures.len;
     }

@@ -1,4 +1,4 @@
-use Rattle.std.proofs.Common.{get_or, refl, arith, rules}
+use Rattle.std.proofs.Common.{refl, arith}
 use Rattle.numbers.proofs.Cuts.{copied_next}
 use Rattle.numbers.proofs.draft.Draft.write_to.Goals as goal
 

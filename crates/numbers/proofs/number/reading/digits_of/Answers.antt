@@ -7,24 +7,24 @@ use Rattle.numbers.proofs.Gathers.{gathered_next, gathered_all}
 use Rattle.numbers.proofs.Halves.{not_all_digits, all_digits_more, length-unpack}
 use Rattle.numbers.proofs.number.reading.digits_of.Goals as goal
 
-pub returns-in-default : goal.returns-in-default
-returns-in-default c =
+pub returns-in_default : goal.returns-in_default
+returns-in_default c =
     let halves = unpack c.args.octets.now in
-    let e : c.digit-at.result ≡ get_or halves c.loop-k.k 0 = c.digit-at.ensures in
+    let e : c.digit_at.result ≡ get_or halves c.loop-k.k 0 = c.digit_at.ensures in
     let u = length-unpack c.args.octets.now in
     let l : length (gathered c.loop-k.all) ≡ c.loop-k.k = ap length c.loop-k.invariant.0 ∙ length-take-le c.loop-k.k halves (omega arith) in
-    let n : c.digit-at.result ≤ 9 → 15 ≤ c.loop-k.k = λ h. omega (arith, c.in-default.ensures.0 h) in
+    let n : c.digit_at.result ≤ 9 → 15 ≤ c.loop-k.k = λ h. omega (arith, c.in_default.ensures.0 h) in
     not_all_digits c.args.count c.loop-k.k halves (omega arith)
     (elim (cases_lt 9 (get_or halves c.loop-k.k 0)) [ inl h ↦ h | inr h ↦ absurd (omega (arith, n (omega arith))) ])
 
 pub loop-k-preserved : goal.loop-k-preserved
 loop-k-preserved c =
     let halves = unpack c.args.octets.now in
-    let e : c.digit-at.result ≡ get_or halves c.loop-k.k 0 = c.digit-at.ensures in
+    let e : c.digit_at.result ≡ get_or halves c.loop-k.k 0 = c.digit_at.ensures in
     let u = length-unpack c.args.octets.now in
     let h : c.loop-k.k < length halves = omega arith in
     let a = c.in-Some.ensures in (
-      gathered_next (gathered c.loop-k.all) (gathered c.add.new.self) c.loop-k.k c.digit-at.result halves h e c.loop-k.invariant.0 a.0,
+      gathered_next (gathered c.loop-k.all) (gathered c.add.new.self) c.loop-k.k c.digit_at.result halves h e c.loop-k.invariant.0 a.0,
       all_digits_more c.loop-k.k halves h c.loop-k.invariant.1 (omega (arith, a.1)),
     )
 

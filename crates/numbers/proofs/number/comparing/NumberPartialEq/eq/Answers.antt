@@ -1,6 +1,5 @@
-use Rattle.std.proofs.Common.{◌≡◌, ℕ, List, Decides, sym, ◌∙◌, subst}
+use Rattle.std.proofs.Common.{sym, ◌∙◌}
 use Rattle.std.proofs.lemmas.Slice.Eq.{slice_eq-Decides}
-use Rattle.numbers.specs.Digits.{digits_of}
 use Rattle.numbers.proofs.Compares.{compared}
 use Rattle.numbers.proofs.number.comparing.NumberPartialEq.eq.Goals as goal
 use Rattle.std.proofs.lemmas.Bool.Decides.{Decides-eqb}
