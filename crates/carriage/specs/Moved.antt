@@ -2,7 +2,7 @@
 use Rattle.std.specs.Prelude.{ℕ, zero, suc, ◌-◌, Bool, List, ◌++◌, length, take, Some, None, Ok, Err, filter, Option, Result}
 use Rattle.numbers.specs.declared.refusal.Refusal.{Refusal}
 use Rattle.numbers.specs.declared.refusal.Refusal.TheVariants.{Full}
-use Rattle.waiting.specs.Items.{earliest, without_earliest}
+use Rattle.waiting.specs.Items.{without_earliest}
 
 -- the list without the first n that fit
 abbrev pub without_first : {X : Type 0} → (X → Bool) → ℕ → List X → List X

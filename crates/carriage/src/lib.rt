@@ -1,4 +1,6 @@
 // Carriers: envelopes that wait, in the order in which they were put, until they are taken.
+#![tactic(auto)]
+
 pub mod carrier;
 pub mod moving;
 pub mod question;

@@ -1,5 +1,5 @@
 -- What is found under a code or a number is the value with it, and each value is found.
-use Rattle.std.proofs.Common.{◌≡◌, ℕ, Bool, true, false, cond, eqb, List, [], ◌∷◌, Some, None, sym, refl, arith}
+use Rattle.std.proofs.Common.{◌≡◌, ℕ, List, [], ◌∷◌, Some, sym, refl, arith}
 use Rattle.std.proofs.lemmas.Bool.Decides.{nat_tests}
 use Rattle.isup.specs.declared.message.Service.{Service}
 use Rattle.isup.specs.declared.message.Service.TheVariants as service

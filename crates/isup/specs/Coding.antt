@@ -7,7 +7,6 @@ use Rattle.isup.specs.declared.message.RedirectionInformation.{RedirectionInform
 use Rattle.isup.specs.declared.message.DiversionInformation.{DiversionInformation}
 use Rattle.isup.specs.declared.message.Restriction.{Restriction}
 use Rattle.isup.specs.declared.message.Redirection.{Redirection}
-use Rattle.isup.specs.declared.message.Notice.{Notice}
 use Rattle.isup.specs.declared.message.Backward.{Backward}
 use Rattle.isup.specs.declared.message.Message.{Message}
 use Rattle.isup.specs.declared.message.Message.TheVariants.{InitialAddress, AddressComplete, CallProgress, Answer, Connect, Release}

@@ -1,4 +1,6 @@
 // The messages that exchanges send one another, as values: their types, codes and making.
+#![tactic(auto)]
+
 pub mod codes;
 pub mod message;
 pub mod row;

@@ -1,5 +1,5 @@
 -- Parts make a message exactly where they are the parts of that message.
-use Rattle.std.proofs.Common.{◌≡◌, ℕ, Bool, true, false, cond, eqb, Some, None, Ok, Err, Option, Result, sym, refl, ap, ◌∙◌, subst, arith}
+use Rattle.std.proofs.Common.{◌≡◌, ℕ, Bool, true, false, cond, eqb, Some, None, Option, Result, sym, refl, ap, ◌∙◌, subst, arith}
 use Rattle.std.specs.Option.{option_map, ok_or}
 use Rattle.std.proofs.lemmas.Bool.{eqb-true}
 use Rattle.numbers.specs.declared.number.Number.{Number}
@@ -13,12 +13,11 @@ use Rattle.isup.specs.declared.message.DiversionInformation.{DiversionInformatio
 use Rattle.isup.specs.declared.message.Redirection.{Redirection}
 use Rattle.isup.specs.declared.message.Notice.{Notice}
 use Rattle.isup.specs.declared.message.Backward.{Backward}
-use Rattle.isup.specs.declared.message.Envelope.{Envelope}
 use Rattle.isup.specs.declared.message.Message.{Message}
 use Rattle.isup.specs.declared.message.Message.TheVariants.{InitialAddress, AddressComplete, CallProgress, Answer, Connect, Release}
-use Rattle.isup.specs.Codes.{service_of, reason_of, notification_of, indicator_of, restriction_of, status_of, event_of, way_of, restriction_code}
-use Rattle.isup.specs.Ranges.{cause_in, count_in, circuit_in, exchange_in}
-use Rattle.isup.proofs.Coded.{code_of_service, code_of_reason, code_of_notification, code_of_indicator, code_of_restriction, code_of_status, code_of_event, code_of_way, found_service, found_reason, found_notification, found_indicator, found_restriction, found_status, found_event, found_way, found_cause, found_count, found_exchange, found_circuit, number_of_cause, number_of_count, number_of_exchange, numbers_of_circuit}
+use Rattle.isup.specs.Codes.{service_of, reason_of, notification_of, indicator_of, restriction_of, status_of, event_of, restriction_code}
+use Rattle.isup.specs.Ranges.{cause_in, count_in, circuit_in}
+use Rattle.isup.proofs.Coded.{code_of_service, code_of_reason, code_of_notification, code_of_indicator, code_of_restriction, code_of_status, code_of_event, found_service, found_reason, found_notification, found_indicator, found_restriction, found_status, found_event, found_cause, found_count, found_circuit, number_of_cause, number_of_count, numbers_of_circuit}
 use Rattle.making.specs.declared.parts.Mandatory.{Mandatory}
 use Rattle.making.specs.declared.parts.RawInformation.{RawInformation}
 use Rattle.making.specs.declared.parts.RawRedirection.{RawRedirection}
@@ -26,8 +25,8 @@ use Rattle.making.specs.declared.parts.RawDiversion.{RawDiversion}
 use Rattle.making.specs.declared.parts.RawNotice.{RawNotice}
 use Rattle.making.specs.declared.parts.Optional.{Optional}
 use Rattle.making.specs.declared.parts.Parts.{Parts}
-use Rattle.making.specs.Parts.{kind_of, mandatory_of, optional_of, raw_information, raw_diversion, raw_redirection, raw_notice, parts_of, Made, PartsOfEnvelope, EnvelopeMade}
-use Rattle.making.specs.Making.{takes, lacks, information_in, redirection_from, redirection_in, diversion_in, notice_from, notice_in, restriction_in, optional_in, backward_in, restriction_alone, initial_in, complete_in, progress_in, connected_in, release_in, message_in, made_from, envelope_from}
+use Rattle.making.specs.Parts.{kind_of, mandatory_of, optional_of, raw_information, raw_diversion, raw_redirection, raw_notice, parts_of, Made}
+use Rattle.making.specs.Making.{takes, lacks, information_in, redirection_from, redirection_in, diversion_in, notice_from, notice_in, restriction_in, optional_in, backward_in, restriction_alone, initial_in, complete_in, progress_in, connected_in, release_in, message_in, made_from}
 
 none_some : {A : Type 0} {x : A} → None ≡ Some x → ⊥
 none_some e = let z : ◌≡◌ {A = ℕ} 0 1 = cc in omega arith

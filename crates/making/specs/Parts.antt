@@ -1,5 +1,5 @@
 -- The raw parts of a message and of an envelope.
-use Rattle.std.specs.Prelude.{◌≡◌, ℕ, Bool, true, false, Some, None, Ok, Err, Option, Result, ◌≢◌}
+use Rattle.std.specs.Prelude.{◌≡◌, ℕ, true, false, Some, None, Ok, Err, Option, Result, ◌≢◌}
 use Rattle.std.specs.Option.{option_map}
 use Rattle.numbers.specs.declared.number.Number.{Number}
 use Rattle.numbers.specs.declared.refusal.Refusal.{Refusal}

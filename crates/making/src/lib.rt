@@ -1,4 +1,6 @@
 // Making messages and envelopes from raw parts.
+#![tactic(auto)]
+
 pub mod envelope;
 mod groups;
 pub mod message;

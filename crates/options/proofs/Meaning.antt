@@ -1,5 +1,5 @@
 -- How the meaning of the cells changes where some are emptied or one is filled.
-use Rattle.std.proofs.Common.{◌≡◌, ℕ, ◌+◌, ◌≤◌, Bool, true, false, cond, ◌&&◌, eqb, List, [], ◌∷◌, ◌++◌, length, is_some, Some, None, count_by, Option, sym, refl, ap, ◌∙◌, arith, eqb-true}
+use Rattle.std.proofs.Common.{◌≡◌, ℕ, ◌≤◌, Bool, true, false, cond, ◌&&◌, eqb, List, [], ◌∷◌, ◌++◌, is_some, Some, None, count_by, Option, sym, refl, ap, ◌∙◌, arith, eqb-true}
 use Rattle.std.proofs.lemmas.List.{length_push}
 use Rattle.isup.specs.declared.message.Service.{Service}
 use Rattle.isup.specs.declared.message.Service.TheVariants.{Speech, Digital64, Audio}
@@ -10,12 +10,11 @@ use Rattle.numbers.proofs.Compares.{same_decides}
 use Rattle.waiting.specs.Items.{earliest, others}
 use Rattle.options.specs.declared.record.Kind.{Kind}
 use Rattle.options.specs.declared.record.Kind.TheVariants.{Unconditional, Busy, NoReply, Deflection}
-use Rattle.options.specs.declared.record.Record.{Record}
 use Rattle.options.specs.declared.record.Services.{Services}
-use Rattle.options.specs.declared.record.Services.TheVariants.{One, All}
+use Rattle.options.specs.declared.record.Services.TheVariants.{One}
 use Rattle.options.specs.declared.cells.Cell.{Cell}
 use Rattle.options.specs.declared.cells.Cell.TheVariants.{Diversion, Withheld}
-use Rattle.options.specs.Records.{serves, same_kind, same_service, kind_place}
+use Rattle.options.specs.Records.{same_kind, same_service, kind_place}
 use Rattle.options.specs.Cells.{covers, is_diversion, is_withheld, record_in, held_in, withheld_in, Single, Diverted, Marked}
 use Rattle.options.proofs.Lists.{earliest_without, earliest-append, or_else, count_without, length_without, count_push, count_none}
 

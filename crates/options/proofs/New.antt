@@ -1,5 +1,5 @@
 -- The cells of a new record, and the meaning with them in place of the old ones.
-use Rattle.std.proofs.Common.{◌≡◌, ℕ, ◌+◌, ◌≤◌, Bool, true, false, cond, ◌&&◌, eqb, List, [], ◌∷◌, ◌++◌, length, is_some, Some, None, count_by, Option, sym, refl, ap, ◌∙◌, arith, eq-eqb, eqb-true}
+use Rattle.std.proofs.Common.{◌≡◌, ℕ, ◌+◌, ◌≤◌, Bool, true, false, cond, ◌&&◌, eqb, List, ◌++◌, length, is_some, Some, None, count_by, Option, sym, refl, ap, ◌∙◌, arith, eq-eqb, eqb-true}
 use Rattle.std.proofs.lemmas.List.{length-append}
 use Rattle.std.proofs.lemmas.List.Sums.{sum_by-append}
 use Rattle.isup.specs.declared.message.Service.{Service}
@@ -13,11 +13,11 @@ use Rattle.options.specs.declared.record.Record.{Record}
 use Rattle.options.specs.declared.record.Services.{Services}
 use Rattle.options.specs.declared.record.Services.TheVariants.{One, All}
 use Rattle.options.specs.declared.cells.Cell.{Cell}
-use Rattle.options.specs.declared.cells.Cell.TheVariants.{Diversion, Withheld}
-use Rattle.options.specs.Records.{serves, service_count, same_kind, same_service, kind_place}
-use Rattle.options.specs.Cells.{covers, is_diversion, is_withheld, record_in, held_in, withheld_in, Single, Diverted, new_cells}
+use Rattle.options.specs.declared.cells.Cell.TheVariants.{Diversion}
+use Rattle.options.specs.Records.{service_count, same_kind, same_service, kind_place}
+use Rattle.options.specs.Cells.{covers, is_diversion, is_withheld, record_in, Diverted, new_cells}
 use Rattle.options.proofs.Lists.{earliest_without, earliest-append, or_else, count_without, length_without, count_none}
-use Rattle.options.proofs.Meaning.{fits_covers, both_ways, same_sym, or_none, withheld_without, single_without}
+use Rattle.options.proofs.Meaning.{fits_covers, both_ways, same_sym, or_none, withheld_without}
 
 eqb_sym : (a b : ℕ) → eqb a b ≡ eqb b a
 eqb_sym a b =

@@ -1,5 +1,5 @@
 -- What a list of cells means, and how a change of it changes the meaning.
-use Rattle.std.specs.Prelude.{◌≡◌, ℕ, ◌+◌, ◌-◌, ◌≤◌, Bool, true, false, cond, ◌&&◌, List, [], ◌∷◌, length, is_some, Some, None, Ok, Err, count_by, Option, Result, ◌==◌, nat_lt}
+use Rattle.std.specs.Prelude.{◌≡◌, ℕ, ◌+◌, ◌-◌, ◌≤◌, Bool, false, cond, ◌&&◌, List, [], ◌∷◌, length, is_some, Some, None, Ok, Err, count_by, Option, Result, ◌==◌, nat_lt}
 use Rattle.isup.specs.declared.message.Service.{Service}
 use Rattle.isup.specs.declared.message.Service.TheVariants.{Speech, Digital64, Audio}
 use Rattle.numbers.specs.declared.number.Number.{Number}

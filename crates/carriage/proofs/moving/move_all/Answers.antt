@@ -1,4 +1,4 @@
-use Rattle.std.proofs.Common.{◌≡◌, suc, ◌+◌, ◌-◌, [], ◌∷◌, ◌++◌, length, sym, refl, ap, ◌∙◌, arith}
+use Rattle.std.proofs.Common.{◌≡◌, suc, ◌+◌, ◌-◌, [], ◌∷◌, ◌++◌, length, sym, ap, ◌∙◌, arith}
 use Rattle.std.proofs.lemmas.List.{length_push}
 use Rattle.numbers.specs.declared.number.Number.{Number}
 use Rattle.waiting.specs.Items.{earliest}
@@ -7,18 +7,18 @@ use Rattle.carriage.specs.Moved.{without_first, with_first, move_answer}
 use Rattle.carriage.proofs.Moves.{none_left, none_taken, none_moved, one_moved, room_added}
 use Rattle.carriage.proofs.moving.move_all.Goals as goal
 
-pub returns-in-default : goal.returns-in-default
-returns-in-default g c =
+pub returns-in_default : goal.returns-in_default
+returns-in_default g c =
     let p = between {N = Number} c.args.from c.args.to in
     let s = g.S.Carrier.waiting c.loop-room.source in
     let t = g.T.Carrier.waiting c.loop-room.target in
-    let none = c.in-default.ensures.answer in
+    let none = c.in_default.ensures.answer in
     let same = c.take.ensures.after ∙ none_taken p s none in
     record {
       answer = ap move_answer (none ∙ sym (ap (earliest p) same));
       left = same ∙ sym (none_left p c.loop-room.room s none) ∙ c.loop-room.invariant.0;
       moved = sym (none_moved p c.loop-room.room s t none) ∙ c.loop-room.invariant.1;
-      source-room = c.take.ensures.room ∙ c.loop-room.invariant.3;
+      source_room = c.take.ensures.room ∙ c.loop-room.invariant.3;
       target_room = c.loop-room.invariant.4;
     }
 

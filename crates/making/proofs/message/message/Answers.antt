@@ -8,6 +8,6 @@ no_row :
     n ≡ cond (eqb k 0x01) a (cond (eqb k 0x06) b (cond (eqb k 0x2C) c (cond (eqb k 0x09) d (cond (eqb k 0x07) e (cond (eqb k 0x0C) f n)))))
 no_row k n a b c d e f h1 h2 h3 h4 h5 h6 = grind (arith, nat_tests)
 
-pub returns-in-default : goal.returns-in-default
-returns-in-default c =
+pub returns-in_default : goal.returns-in_default
+returns-in_default c =
     no_row c.args.kind _ _ _ _ _ _ _ (λ h. omega arith) (λ h. omega arith) (λ h. omega arith) (λ h. omega arith) (λ h. omega arith) (λ h. omega arith)

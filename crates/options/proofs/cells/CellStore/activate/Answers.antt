@@ -14,9 +14,9 @@ fill-requires c =
     let before = items c.args.self.now.list in
     let p : Cell → Bool = is_diversion c.args.number c.args.services c.args.kind in
     let all = length_without p before in
-    let left : length (items c.take-all.new.self) ≡ length (others p before) = ap length c.take-all.ensures.after in
+    let left : length (items c.take_all.new.self) ≡ length (others p before) = ap length c.take_all.ensures.after in
     let replaced : c.count-2.result ≡ count_by p before = c.count-2.ensures in
-    omega (arith, c.count.ensures, c.saturating-sub-needed.ensures, c.free.ensures, c.if-free-needed.false, c.take-all.ensures.room)
+    omega (arith, c.count.ensures, c.saturating_sub-needed.ensures, c.free.ensures, c.if-free-needed.false, c.take_all.ensures.room)
 
 pub returns : goal.returns
 returns c =
@@ -25,7 +25,7 @@ returns c =
     let services = c.args.services in
     let kind = c.args.kind in
     let new = new_cells number services kind c.in-Some.record in
-    let filled = c.fill.ensures.after ∙ ap (λ l. l ++ new) c.take-all.ensures.after in
+    let filled = c.fill.ensures.after ∙ ap (λ l. l ++ new) c.take_all.ensures.after in
     record {
       answer = search rules;
       after =
@@ -33,5 +33,5 @@ returns c =
           c.in-Some.ensures
           (subst (λ (l : List Cell). Diverted before l number services kind (Some c.in-Some.record) (service_count services))
           (sym filled) (diverted_new before number services kind c.in-Some.record));
-      room = c.fill.ensures.room ∙ c.take-all.ensures.room;
+      room = c.fill.ensures.room ∙ c.take_all.ensures.room;
     }

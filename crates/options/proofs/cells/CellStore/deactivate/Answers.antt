@@ -11,6 +11,6 @@ returns c =
     record {
       answer = search rules;
       after = subst (λ (l : List Cell). Diverted before l c.args.number c.args.services c.args.kind None 0)
-          (sym c.take-all.ensures.after) (diverted_without before c.args.number c.args.services c.args.kind);
-      room = c.take-all.ensures.room;
+          (sym c.take_all.ensures.after) (diverted_without before c.args.number c.args.services c.args.kind);
+      room = c.take_all.ensures.room;
     }

@@ -10,6 +10,6 @@ returns c =
     let before = items c.args.self.now.list in
     record {
       after = subst (λ (l : List Cell). Marked before l c.args.number false (count_by (is_withheld c.args.number) before) 0)
-          (sym c.take-all.ensures.after) (marked_without before c.args.number);
-      room = c.take-all.ensures.room;
+          (sym c.take_all.ensures.after) (marked_without before c.args.number);
+      room = c.take_all.ensures.room;
     }

@@ -1,15 +1,15 @@
-use Rattle.std.proofs.Common.{true, cond, List, [], ◌∷◌, ◌++◌, Ok, Err, sym, refl, ap, ◌∙◌, subst, rules}
-use Rattle.waiting.specs.Items.{items, places, is_full}
+use Rattle.std.proofs.Common.{true, cond, List, [], ◌∷◌, ◌++◌, sym, refl, ap, ◌∙◌, subst, rules}
+use Rattle.waiting.specs.Items.{items}
 use Rattle.options.specs.declared.cells.Cell.{Cell}
 use Rattle.options.specs.declared.cells.Cell.TheVariants.{Withheld}
 use Rattle.options.specs.Cells.{Marked, withheld_in}
 use Rattle.options.proofs.Meaning.{marked_push, marked_still}
 use Rattle.options.proofs.cells.CellStore.withhold.Goals as goal
 
-pub returns-then-is-withheld : goal.returns-then-is-withheld
-returns-then-is-withheld c = record {
+pub returns-then-is_withheld : goal.returns-then-is_withheld
+returns-then-is_withheld c = record {
   answer = search rules;
-  after = marked_still (items c.args.self.now.list) c.args.number (sym c.if-is-withheld.ensures);
+  after = marked_still (items c.args.self.now.list) c.args.number (sym c.if-is_withheld.ensures);
   room = refl;
 }
 
@@ -23,6 +23,6 @@ returns-in-Ok c =
     record {
       answer = search rules;
       after = subst (λ (l : List Cell). Marked before l number true 0 (cond (withheld_in before number) 0 1))
-          (sym pushed) (marked_push before number (sym c.if-is-withheld.ensures));
+          (sym pushed) (marked_push before number (sym c.if-is_withheld.ensures));
       room = c.put.ensures.room;
     }
