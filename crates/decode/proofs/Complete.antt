@@ -1,7 +1,7 @@
 -- Every coding of a message is read as that message.
-use Rattle.std.proofs.Common.{◌≡◌, ℕ, ◌+◌, ◌-◌, ◌*◌, ◌/◌, ◌%◌, ◌<◌, ◌≤◌, Bool, true, false, cond, ◌||◌, eqb, ltb, leb, List, [], ◌∷◌, ◌++◌, length, get_or, take, drop, Some, None, Ok, Err, Option, Result, sym, refl, ap, ◌∙◌, subst, inl, inr, arith}
+use Rattle.std.proofs.Common.{◌≡◌, ℕ, ◌+◌, ◌-◌, ◌<◌, ◌≤◌, Bool, true, false, cond, eqb, ltb, leb, List, [], ◌∷◌, ◌++◌, length, get_or, take, drop, Some, None, Ok, Option, sym, refl, ap, ◌∙◌, subst, arith}
 use Rattle.std.proofs.lemmas.Bool.{cond-true, cond-false, eq-eqb}
-use Rattle.std.proofs.lemmas.Bool.Decides.{nat_tests, eqb_tells}
+use Rattle.std.proofs.lemmas.Bool.Decides.{nat_tests}
 use Rattle.std.proofs.lemmas.List.{length-append, take_at, drop_at, drop-drop}
 use Rattle.std.specs.Option.{option_map}
 use Rattle.numbers.specs.declared.number.Number.{Number}
@@ -23,13 +23,12 @@ use Rattle.isup.specs.declared.message.Message.TheVariants.{InitialAddress, Addr
 use Rattle.isup.specs.declared.row.Row.{Row}
 use Rattle.isup.specs.declared.row.Row.TheVariants as row
 use Rattle.isup.specs.Rows.{has}
-use Rattle.isup.specs.Coding.{Parameter, Named, contents, if_there, restriction_octets, optional_octets, field_of, row_of, head_of, variable_of, behind, redirection_field, backward_field, Coded}
+use Rattle.isup.specs.Coding.{Parameter, Named, contents, if_there, restriction_octets, optional_octets, field_of, row_of, head_of, variable_of, behind, redirection_field, backward_field}
 use Rattle.isup.specs.Ranges.{circuit_octets, circuit_from}
 use Rattle.isup.specs.Codes.{service_code, status_code, status_of, event_code, event_of}
 use Rattle.isup.proofs.Coded.{found_service, found_status, found_event}
-use Rattle.decode.specs.declared.fault.MessageFault.{MessageFault}
 use Rattle.decode.specs.declared.optional.Gathered.{Gathered}
-use Rattle.decode.specs.Faults.{then, or_value_fault}
+use Rattle.decode.specs.Faults.{or_value_fault}
 use Rattle.decode.specs.Values.{cause_from}
 use Rattle.decode.specs.Optional.{number_at, nothing}
 use Rattle.decode.specs.Messages.{octet_in, exact_in, variable_in, optional_in, tail_in, redirection_in, notice_in, service_in, backward_in, message_in, read_message}

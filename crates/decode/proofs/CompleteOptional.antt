@@ -1,6 +1,6 @@
 -- An optional part that carries what is to be gathered is read as that.
-use Rattle.std.proofs.Common.{◌≡◌, ℕ, ◌+◌, ◌-◌, ◌<◌, ◌≤◌, Bool, true, false, cond, ◌||◌, eqb, ltb, leb, List, [], ◌∷◌, ◌++◌, length, get_or, drop, Some, None, Ok, Err, Option, Result, sym, refl, ap, ◌∙◌, subst, inl, inr, arith}
-use Rattle.std.proofs.lemmas.Bool.{cases_bool, cond-true, cond-false, eq-eqb}
+use Rattle.std.proofs.Common.{◌≡◌, ℕ, ◌+◌, ◌-◌, ◌<◌, ◌≤◌, Bool, true, false, cond, ◌||◌, eqb, ltb, List, [], ◌∷◌, ◌++◌, length, get_or, drop, Some, None, Ok, Err, Option, Result, sym, refl, ap, ◌∙◌, subst, inl, inr, arith}
+use Rattle.std.proofs.lemmas.Bool.{cases_Bool, cond-true, cond-false, eq-eqb}
 use Rattle.std.proofs.lemmas.Bool.Decides.{nat_tests, eqb_tells}
 use Rattle.std.proofs.lemmas.List.{length-append, length-drop}
 use Rattle.numbers.specs.declared.number.Number.{Number}
@@ -14,8 +14,8 @@ use Rattle.isup.specs.Coding.{Parameter, encoded, Named, contents, if_there, inf
 use Rattle.decode.specs.declared.fault.MessageFault.{MessageFault}
 use Rattle.decode.specs.declared.optional.Gathered.{Gathered}
 use Rattle.decode.specs.Faults.{then, or_value_fault}
-use Rattle.decode.specs.Values.{is_octet, information_in, diversion_in, restriction_in}
-use Rattle.decode.specs.Parameters.{Part, parts_at}
+use Rattle.decode.specs.Values.{information_in, diversion_in, restriction_in}
+use Rattle.decode.specs.Parameters.{Part}
 use Rattle.decode.specs.Optional.{member, repeated, nothing, number_at, octet_at, value_of, collected, unless_repeated, optional_from, with_redirecting, with_original, with_information, with_may_divert, with_announced, with_diversion, with_redirection, with_restriction}
 use Rattle.decode.specs.Messages.{optional_in}
 use Rattle.decode.proofs.Parts.{placed_from, parts_complete}
@@ -213,7 +213,7 @@ first : (row : Row) (names : List ℕ) (t : Gathered Number) (q : Parameter) (qs
 first row names t q qs k h =
     let a : q.1 ∷ contents q.0 qs ≡ cond (member q.0 names) [] (gathered_field t q.0) =
     sym (cond-true (eqb q.0 q.0) _ _ (eq-eqb q.0 q.0 refl)) ∙ h q.0 k in
-    elim (cases_bool (member q.0 names)) [
+    elim (cases_Bool (member q.0 names)) [
       | inl m ↦ clash (a ∙ cond-true (member q.0 names) _ _ m)
       | inr m ↦
           (let b : q.1 ∷ contents q.0 qs ≡ gathered_field t q.0 = a ∙ cond-false (member q.0 names) _ _ m in
@@ -237,11 +237,11 @@ gathers : (row : Row) (names : List ℕ) (t : Gathered Number) (at : ℕ) (qs : 
 gathers row names t at [] w h =
     record {
       unrepeated = refl;
-      gathered = ap (λ (g : Gathered Number). Ok g) (all_met names t (λ n m. elim (cases_bool (has row n))
+      gathered = ap (λ (g : Gathered Number). Ok g) (all_met names t (λ n m. elim (cases_Bool (has row n))
           [ inl k ↦ sym (h n k ∙ cond-false (member n names) _ _ m) | inr k ↦ w n k ]));
     }
 gathers row names t at (q ∷ qs) w h =
-    elim (cases_bool (has row q.0)) [
+    elim (cases_Bool (has row q.0)) [
       | inl k ↦
           (let f = first row names t q qs k h in
           let g = gathers row (q.0 ∷ names) t (at + 2 + length q.1) qs w f.left in

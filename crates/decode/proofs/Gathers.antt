@@ -1,7 +1,7 @@
 -- What is gathered from the optional part is what its parameters carry.
 use Rattle.std.proofs.Common.{◌≡◌, ℕ, Bool, true, false, cond, eqb, List, [], ◌∷◌, ◌++◌, Some, None, Ok, Option, Result, sym, refl, ap, ◌∙◌, subst, inl, inr, arith}
 use Rattle.std.proofs.lemmas.Bool.Decides.{nat_tests, eqb_tells}
-use Rattle.std.proofs.lemmas.Bool.{or_parts, cases_bool, cond-true, cond-false}
+use Rattle.std.proofs.lemmas.Bool.{or_parts, cases_Bool, cond-true, cond-false}
 use Rattle.std.proofs.lemmas.List.{append-nil}
 use Rattle.numbers.specs.declared.number.Number.{Number}
 use Rattle.numbers.specs.Digits.{content, plain}
@@ -97,7 +97,7 @@ gathers row met g h [] r e empty n k =
     let is : h ≡ g = cc in
     ap (λ (x : Gathered Number). gathered_field x n) is ∙ sym (append-nil (gathered_field g n))
 gathers row met g h (p ∷ ps) r e empty n k =
-    elim (cases_bool (has row p.name)) [
+    elim (cases_Bool (has row p.name)) [
       | inl t ↦
           (let new = unmet (member p.name met) p.place (repeated row (p.name ∷ met) ps) (sym (cond-true (has row p.name) _ _ t) ∙ r) in
           let a = both (value_of g p) (λ x. collected row x ps) h (sym (cond-true (has row p.name) _ _ t) ∙ e) in

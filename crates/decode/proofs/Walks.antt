@@ -1,8 +1,8 @@
 -- One walk over the optional part finds what three passes would.
-use Rattle.std.proofs.Common.{◌≡◌, ℕ, zero, suc, ◌+◌, ◌-◌, ◌<◌, ◌≤◌, Bool, true, false, cond, ◌&&◌, ◌||◌, eqb, leb, ◌≢◌, ◌⊎◌, List, [], ◌∷◌, ◌++◌, length, get_or, take, drop, set, replicate, Some, None, Ok, Err, Option, Result, sym, refl, ap, ◌∙◌, subst, inl, inr, arith}
+use Rattle.std.proofs.Common.{◌≡◌, ℕ, zero, suc, ◌+◌, ◌<◌, ◌≤◌, Bool, true, false, cond, ◌||◌, List, [], ◌∷◌, length, get_or, set, replicate, Some, None, Ok, Err, Option, Result, sym, refl, ap, ◌∙◌, inl, inr, arith}
 use Rattle.std.proofs.lemmas.List.{get_or-set_same, get_or-set_other, length-set, length-replicate}
 use Rattle.std.proofs.lemmas.Bool.Decides.{nat_tests, eqb_tells}
-use Rattle.std.proofs.lemmas.Bool.{cases_bool}
+use Rattle.std.proofs.lemmas.Bool.{cases_Bool}
 use Rattle.numbers.specs.declared.number.Number.{Number}
 use Rattle.decode.specs.declared.fault.MessageFault.{MessageFault}
 use Rattle.decode.specs.declared.fault.MessageFault.TheVariants as fault
@@ -104,8 +104,8 @@ run_fault :
     run row met (found g (Some f) None) ps ≡ unless_repeated (repeated row names ps) (Err f)
 run_fault row met names g f [] fl = refl
 run_fault row met names g f (p ∷ ps) fl =
-    elim (cases_bool (has row p.name)) [
-      | inl e ↦ elim (cases_bool (member p.name names)) [
+    elim (cases_Bool (has row p.name)) [
+      | inl e ↦ elim (cases_Bool (member p.name names)) [
         | inl m ↦ rw (e, fl.1 p.name e ∙ m, m) (run_again row (set met p.name true) g (Some f) p.place ps)
         | inr m ↦ rw (e, fl.1 p.name e ∙ m, m) (run_fault row (set met p.name true) (p.name ∷ names) g f ps (flags_more row met names p.name e fl))
       ]
@@ -124,8 +124,8 @@ run_is :
     run row met (found g None None) ps ≡ unless_repeated (repeated row names ps) (collected row g ps)
 run_is row met names g [] fl = refl
 run_is row met names g (p ∷ ps) fl =
-    elim (cases_bool (has row p.name)) [
-      | inl e ↦ elim (cases_bool (member p.name names)) [
+    elim (cases_Bool (has row p.name)) [
+      | inl e ↦ elim (cases_Bool (member p.name names)) [
         | inl m ↦ rw (e, fl.1 p.name e ∙ m, m) (run_again row (set met p.name true) g None p.place ps)
         | inr m ↦ rw (e, fl.1 p.name e ∙ m, m)
             (took row (set met p.name true) (p.name ∷ names) g ps (value_of g p) (flags_more row met names p.name e fl)

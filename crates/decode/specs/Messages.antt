@@ -1,5 +1,5 @@
 -- What reading a message answers, front to back.
-use Rattle.std.specs.Prelude.{ℕ, ◌+◌, ◌-◌, Bool, true, false, cond, List, [], ◌∷◌, length, take, drop, Some, None, Ok, Err, Option, Result, ◌==◌, nat_le, nat_lt, slice_index}
+use Rattle.std.specs.Prelude.{ℕ, ◌+◌, ◌-◌, Bool, false, cond, List, length, take, drop, Some, None, Ok, Err, Option, Result, ◌==◌, nat_le, nat_lt, slice_index}
 use Rattle.numbers.specs.declared.number.Number.{Number}
 use Rattle.numbers.specs.Reading.{read_number}
 use Rattle.isup.specs.declared.message.Service.{Service}

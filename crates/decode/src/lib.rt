@@ -1,4 +1,6 @@
 // Reading messages, octet for octet.
+#![tactic(auto)]
+
 pub mod fault;
 mod optional;
 pub mod parameter;

@@ -1,4 +1,4 @@
-use Rattle.std.proofs.Common.{◌≡◌, ℕ, ◌+◌, ◌<◌, ◌≤◌, true, false, length, replicate, None, Ok, Err, Result, sym, refl, ap, ◌∙◌, subst, arith, rules}
+use Rattle.std.proofs.Common.{◌≡◌, ℕ, ◌+◌, false, length, replicate, None, Result, refl, ap, ◌∙◌, arith, rules}
 use Rattle.std.proofs.lemmas.Result.{err_from_is_err_and}
 use Rattle.std.proofs.lemmas.List.{length-set}
 use Rattle.decode.specs.Parameters.{given, closed, refused, part_of, step_at, after}
@@ -29,7 +29,7 @@ loop-p-init c =
 
 pub loop-p-preserved-then-has : goal.loop-p-preserved-then-has
 loop-p-preserved-then-has c =
-    let h = c.in-ok-p.ensures in
+    let h = c.in_ok-p.ensures in
     let i = c.loop-p.invariant in
     let e : given (part_of c.in-Some.p) ≡ step_at c.args.octets.now c.loop-p.part.place = search rules in
     let t : c.next.new.self.place ≡ after (step_at c.args.octets.now c.loop-p.part.place) c.loop-p.part.place = cc in
@@ -39,7 +39,7 @@ loop-p-preserved-then-has c =
 
 pub loop-p-preserved : goal.loop-p-preserved
 loop-p-preserved c =
-    let h = c.in-ok-p.ensures in
+    let h = c.in_ok-p.ensures in
     let i = c.loop-p.invariant in
     let e : given (part_of c.in-Some.p) ≡ step_at c.args.octets.now c.loop-p.part.place = search rules in
     let t : c.next.new.self.place ≡ after (step_at c.args.octets.now c.loop-p.part.place) c.loop-p.part.place = cc in
@@ -49,15 +49,15 @@ loop-p-preserved c =
 
 pub returns-in-None : goal.returns-in-None
 returns-in-None c =
-    let h = c.in-ok-p.ensures in
+    let h = c.in_ok-p.ensures in
     let i = c.loop-p.invariant in
     let e : closed ≡ step_at c.args.octets.now c.loop-p.part.place = search rules in
     c.end.ensures ∙ stops i.3.0 c.args.row c.args.octets.now c.loop-p.part.place c.loop-p.met c.loop-p.walk i.3.1.0 i.0 e ∙ i.3.1.1
 
-pub returns-in-err-p : goal.returns-in-err-p
-returns-in-err-p c =
-    let h = c.in-err-p.ensures in
+pub returns-in_err-p : goal.returns-in_err-p
+returns-in_err-p c =
+    let h = c.in_err-p.ensures in
     let i = c.loop-p.invariant in
-    let p = err_from_is_err_and c.from-residual.result c.from-residual.ensures.1 in
-    let e : refused c.in-err-p.field-0.0 ≡ step_at c.args.octets.now c.loop-p.part.place = search rules in
-    rw (p.1, p.2) (fails i.3.0 c.args.row c.args.octets.now c.loop-p.part.place c.loop-p.met c.loop-p.walk c.in-err-p.field-0.0 i.3.1.0 i.0 e ∙ i.3.1.1)
+    let p = err_from_is_err_and c.from_residual.result c.from_residual.ensures.1 in
+    let e : refused c.in_err-p.field-0.0 ≡ step_at c.args.octets.now c.loop-p.part.place = search rules in
+    rw (p.1, p.2) (fails i.3.0 c.args.row c.args.octets.now c.loop-p.part.place c.loop-p.met c.loop-p.walk c.in_err-p.field-0.0 i.3.1.0 i.0 e ∙ i.3.1.1)
