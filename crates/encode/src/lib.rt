@@ -1,4 +1,6 @@
 // Writing messages octet for octet.
+#![tactic(auto)]
+
 ghost use Rattle.std.specs.Prelude.{◌≡◌, ◌++◌};
 ghost use Rattle.numbers.specs.Drafts.{drafted, cut};
 ghost use Rattle.isup.specs.declared.message.Message.TheVariants.{InitialAddress};

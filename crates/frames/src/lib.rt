@@ -1,4 +1,6 @@
 // Envelopes as frames of octets, and the carrier that holds them.
+#![tactic(auto)]
+
 pub mod carrier;
 pub mod frame;
 pub mod question;

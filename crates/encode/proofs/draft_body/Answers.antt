@@ -15,30 +15,30 @@ tail b = behind None (any_sent (backward_sent b)) (backward_sent b)
 pub returns-in-AddressComplete : goal.returns-in-AddressComplete
 returns-in-AddressComplete c =
     let b = c.in-AddressComplete.backward in
-    added_two (drafted c.args.draft.now) (drafted c.push-all.new.self) (drafted c.draft-backward.new.draft) (0x06 ∷ c.code.result ∷ 0x14 ∷ []) (tail b) _
-    c.push-all.ensures c.draft-backward.ensures (ap (λ (k : ℕ). 0x06 ∷ k ∷ 0x14 ∷ tail b) c.code.ensures ∙ ap body (sym c.in-AddressComplete.is))
+    added_two (drafted c.args.draft.now) (drafted c.push_all.new.self) (drafted c.draft_backward.new.draft) (0x06 ∷ c.code.result ∷ 0x14 ∷ []) (tail b) _
+    c.push_all.ensures c.draft_backward.ensures (ap (λ (k : ℕ). 0x06 ∷ k ∷ 0x14 ∷ tail b) c.code.ensures ∙ ap body (sym c.in-AddressComplete.is))
 
 pub returns-in-CallProgress : goal.returns-in-CallProgress
 returns-in-CallProgress c =
     let b = c.in-CallProgress.backward in
-    added_two (drafted c.args.draft.now) (drafted c.push-all-in-CallProgress.new.self) (drafted c.draft-backward-in-CallProgress.new.draft)
-    (0x2C ∷ c.code-in-CallProgress.result ∷ []) (tail b) _ c.push-all-in-CallProgress.ensures c.draft-backward-in-CallProgress.ensures
+    added_two (drafted c.args.draft.now) (drafted c.push_all-in-CallProgress.new.self) (drafted c.draft_backward-in-CallProgress.new.draft)
+    (0x2C ∷ c.code-in-CallProgress.result ∷ []) (tail b) _ c.push_all-in-CallProgress.ensures c.draft_backward-in-CallProgress.ensures
     (ap (λ (k : ℕ). 0x2C ∷ k ∷ tail b) c.code-in-CallProgress.ensures ∙ ap body (sym c.in-CallProgress.is))
 
 pub returns-in-Answer : goal.returns-in-Answer
 returns-in-Answer c =
-    added_two (drafted c.args.draft.now) (drafted c.push.new.self) (drafted c.draft-backward-in-Answer.new.draft) (0x09 ∷ []) (tail c.only-restriction.result) _
-    c.push.ensures c.draft-backward-in-Answer.ensures
-    (ap (λ (x : Backward Number). 0x09 ∷ tail x) c.only-restriction.ensures ∙ ap body (sym c.in-Answer.is))
+    added_two (drafted c.args.draft.now) (drafted c.push.new.self) (drafted c.draft_backward-in-Answer.new.draft) (0x09 ∷ []) (tail c.only_restriction.result) _
+    c.push.ensures c.draft_backward-in-Answer.ensures
+    (ap (λ (x : Backward Number). 0x09 ∷ tail x) c.only_restriction.ensures ∙ ap body (sym c.in-Answer.is))
 
 pub returns-in-Connect : goal.returns-in-Connect
 returns-in-Connect c =
-    added_two (drafted c.args.draft.now) (drafted c.push-all-in-Connect.new.self) (drafted c.draft-backward-in-Connect.new.draft) (0x07 ∷ 0x04 ∷ 0x14 ∷ [])
-    (tail c.only-restriction-in-Connect.result) _ c.push-all-in-Connect.ensures c.draft-backward-in-Connect.ensures
-    (ap (λ (x : Backward Number). 0x07 ∷ 0x04 ∷ 0x14 ∷ tail x) c.only-restriction-in-Connect.ensures ∙ ap body (sym c.in-Connect.is))
+    added_two (drafted c.args.draft.now) (drafted c.push_all-in-Connect.new.self) (drafted c.draft_backward-in-Connect.new.draft) (0x07 ∷ 0x04 ∷ 0x14 ∷ [])
+    (tail c.only_restriction-in-Connect.result) _ c.push_all-in-Connect.ensures c.draft_backward-in-Connect.ensures
+    (ap (λ (x : Backward Number). 0x07 ∷ 0x04 ∷ 0x14 ∷ tail x) c.only_restriction-in-Connect.ensures ∙ ap body (sym c.in-Connect.is))
 
 pub returns-in-Release : goal.returns-in-Release
 returns-in-Release c =
     let t = topped c.value.result (omega (arith, c.value.ensures.bound)) in
-    added_same (drafted c.args.draft.now) (drafted c.push-all-in-Release.new.self) _ _ c.push-all-in-Release.ensures
+    added_same (drafted c.args.draft.now) (drafted c.push_all-in-Release.new.self) _ _ c.push_all-in-Release.ensures
     (ap (λ (k : ℕ). 0x0C ∷ 0x02 ∷ 0x00 ∷ 2 ∷ 0x82 ∷ k ∷ []) (t ∙ ap (λ (k : ℕ). 0x80 + k) c.value.ensures.is) ∙ ap body (sym c.in-Release.is))

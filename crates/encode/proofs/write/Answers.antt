@@ -12,11 +12,11 @@ pub returns : goal.returns
 returns c =
     let m = c.args.message.now in
     let all = written c.args.circuit m in
-    let front = added_same (drafted c.new-draft.result) (drafted c.push-all.new.self) _ (circuit_octets c.args.circuit) c.push-all.ensures c.octets.ensures in
-    let e : drafted c.draft-body.new.draft ≡ all =
-    cut_more (drafted c.new-draft.result) (drafted c.push-all.new.self) (drafted c.draft-body.new.draft) (circuit_octets c.args.circuit) (body m) front
-    c.draft-body.ensures
+    let front = added_same (drafted c.new-draft.result) (drafted c.push_all.new.self) _ (circuit_octets c.args.circuit) c.push_all.ensures c.octets.ensures in
+    let e : drafted c.draft_body.new.draft ≡ all =
+    cut_more (drafted c.new-draft.result) (drafted c.push_all.new.self) (drafted c.draft_body.new.draft) (circuit_octets c.args.circuit) (body m) front
+    c.draft_body.ensures
     ∙ ap (λ (l : List ℕ). cut (l ++ all)) c.new-draft.ensures
     ∙ cut_short all (omega (arith, length-written c.args.circuit m, message_short m)) in
-    message_written c.args.circuit m c.args.memory.now c.write-to.new.memory c.write-to.result c.write-to.auto.memory
-    (subst (λ (l : List ℕ). Written l c.args.memory.now c.write-to.new.memory c.write-to.result) e c.write-to.ensures)
+    message_written c.args.circuit m c.args.memory.now c.write_to.new.memory c.write_to.result c.write_to.auto.memory
+    (subst (λ (l : List ℕ). Written l c.args.memory.now c.write_to.new.memory c.write_to.result) e c.write_to.ensures)

@@ -9,8 +9,8 @@ use Rattle.encode.proofs.optional.draft_party.Goals as goal
 pub returns : goal.returns
 returns c =
     let xs = content c.args.party.now in
-    let head = c.args.name ∷ c.content-len.result ∷ [] in
+    let head = c.args.name ∷ c.content_len.result ∷ [] in
     let n = append-nil xs in
-    let len : c.content-len.result ≡ length xs = c.content-len.ensures.count in
+    let len : c.content_len.result ≡ length xs = c.content_len.ensures.count in
     let same : head ++ xs ≡ encoded ((c.args.name, xs) ∷ []) = cc in
-    added_two (drafted c.args.draft.now) (drafted c.push-all.new.self) (drafted c.draft.new.draft) head xs _ c.push-all.ensures c.draft.ensures same
+    added_two (drafted c.args.draft.now) (drafted c.push_all.new.self) (drafted c.draft.new.draft) head xs _ c.push_all.ensures c.draft.ensures same

@@ -11,8 +11,8 @@ returns c =
     let frames = items c.args.self.now.list in
     record {
       answer = c.opened.ensures
-          ∙ ap (option_map envelope_of) c.take-first.ensures.answer
+          ∙ ap (option_map envelope_of) c.take_first.ensures.answer
           ∙ earliest-map envelope_of (between c.args.from c.args.to) frames;
-      after = ap envelopes_of c.take-first.ensures.after ∙ without_map envelope_of (between c.args.from c.args.to) frames;
-      room = c.take-first.ensures.room;
+      after = ap envelopes_of c.take_first.ensures.after ∙ without_map envelope_of (between c.args.from c.args.to) frames;
+      room = c.take_first.ensures.room;
     }

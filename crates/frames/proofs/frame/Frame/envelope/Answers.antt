@@ -4,5 +4,5 @@ use Rattle.frames.proofs.frame.Frame.envelope.Goals as goal
 
 pub returns : goal.returns
 returns c =
-    let reads = sym c.envelope-in.ensures ∙ c.unwrap.ensures in
+    let reads = sym c.envelope_in.ensures ∙ c.unwrap.ensures in
     record { reads = reads; holds = sym (frame_holds c.args.self.now _ reads) }

@@ -1,4 +1,4 @@
-use Rattle.std.proofs.Common.{◌≡◌, get_or, ap, ◌∙◌, inl, inr, arith}
+use Rattle.std.proofs.Common.{get_or, ap, ◌∙◌, inl, inr, arith}
 use Rattle.std.specs.Result.{result_ok}
 use Rattle.isup.specs.Codes.{way_of}
 use Rattle.isup.specs.Ranges.{exchange_in}
@@ -17,47 +17,47 @@ returns-then-end-lt5 c =
       | inr h ↦ octets_bad c.args.octets.now c.if-octets-lt5.false (inr h.1)
     ]
 
-pub returns-in-err-from : goal.returns-in-err-from
-returns-in-err-from c =
+pub returns-in_err-from : goal.returns-in_err-from
+returns-in_err-from c =
     let xs = c.args.octets.now in
     let long : Long xs = record { head = omega arith; low = omega arith; high = omega arith } in
-    c.from-residual.ensures
-    ∙ no_from (exchange_in (get_or xs 2 0)) (exchange_in (get_or xs 3 0)) (way_of (get_or xs 4 0)) (result_ok (read_message (message_octets xs))) c.in-err-from.ensures
+    c.from_residual.ensures
+    ∙ no_from (exchange_in (get_or xs 2 0)) (exchange_in (get_or xs 3 0)) (way_of (get_or xs 4 0)) (result_ok (read_message (message_octets xs))) c.in_err-from.ensures
     ∙ octets_long xs long
 
-pub returns-in-err-to : goal.returns-in-err-to
-returns-in-err-to c =
+pub returns-in_err-to : goal.returns-in_err-to
+returns-in_err-to c =
     let xs = c.args.octets.now in
     let long : Long xs = record { head = omega arith; low = omega arith; high = omega arith } in
-    c.from-residual-in-err-to.ensures
-    ∙ no_to c.in-ok-from.from (exchange_in (get_or xs 2 0)) (exchange_in (get_or xs 3 0)) (way_of (get_or xs 4 0)) (result_ok (read_message (message_octets xs)))
-    c.in-ok-from.ensures c.in-err-to.ensures
+    c.from_residual-in_err-to.ensures
+    ∙ no_to c.in_ok-from.from (exchange_in (get_or xs 2 0)) (exchange_in (get_or xs 3 0)) (way_of (get_or xs 4 0)) (result_ok (read_message (message_octets xs)))
+    c.in_ok-from.ensures c.in_err-to.ensures
     ∙ octets_long xs long
 
-pub returns-in-err-way : goal.returns-in-err-way
-returns-in-err-way c =
+pub returns-in_err-way : goal.returns-in_err-way
+returns-in_err-way c =
     let xs = c.args.octets.now in
     let long : Long xs = record { head = omega arith; low = omega arith; high = omega arith } in
-    c.from-residual-in-err-way.ensures
-    ∙ no_way c.in-ok-from.from c.in-ok-to.to (exchange_in (get_or xs 2 0)) (exchange_in (get_or xs 3 0)) (way_of (get_or xs 4 0))
-    (result_ok (read_message (message_octets xs))) c.in-ok-from.ensures c.in-ok-to.ensures c.in-err-way.ensures
+    c.from_residual-in_err-way.ensures
+    ∙ no_way c.in_ok-from.from c.in_ok-to.to (exchange_in (get_or xs 2 0)) (exchange_in (get_or xs 3 0)) (way_of (get_or xs 4 0))
+    (result_ok (read_message (message_octets xs))) c.in_ok-from.ensures c.in_ok-to.ensures c.in_err-way.ensures
     ∙ octets_long xs long
 
-pub returns-in-err-circuit : goal.returns-in-err-circuit
-returns-in-err-circuit c =
+pub returns-in_err-circuit : goal.returns-in_err-circuit
+returns-in_err-circuit c =
     let xs = c.args.octets.now in
     let long : Long xs = record { head = omega arith; low = omega arith; high = omega arith } in
-    c.from-residual-in-err-circuit.ensures
-    ∙ with_parts c.in-ok-from.from c.in-ok-to.to c.in-ok-way.way _ (exchange_in (get_or xs 2 0)) (exchange_in (get_or xs 3 0)) (way_of (get_or xs 4 0))
-    (result_ok (read_message (message_octets xs))) c.in-ok-from.ensures c.in-ok-to.ensures c.in-ok-way.ensures
-    (c.in-err-circuit.ensures.value ∙ ap result_ok c.read.ensures.answer)
+    c.from_residual-in_err-circuit.ensures
+    ∙ with_parts c.in_ok-from.from c.in_ok-to.to c.in_ok-way.way _ (exchange_in (get_or xs 2 0)) (exchange_in (get_or xs 3 0)) (way_of (get_or xs 4 0))
+    (result_ok (read_message (message_octets xs))) c.in_ok-from.ensures c.in_ok-to.ensures c.in_ok-way.ensures
+    (c.in_err-circuit.ensures.value ∙ ap result_ok c.read.ensures.answer)
     ∙ octets_long xs long
 
 pub returns : goal.returns
 returns c =
     let xs = c.args.octets.now in
     let long : Long xs = record { head = omega arith; low = omega arith; high = omega arith } in
-    with_parts c.in-ok-from.from c.in-ok-to.to c.in-ok-way.way _ (exchange_in (get_or xs 2 0)) (exchange_in (get_or xs 3 0)) (way_of (get_or xs 4 0))
-    (result_ok (read_message (message_octets xs))) c.in-ok-from.ensures c.in-ok-to.ensures c.in-ok-way.ensures
-    (c.in-ok-circuit.ensures.value ∙ ap result_ok c.read.ensures.answer)
+    with_parts c.in_ok-from.from c.in_ok-to.to c.in_ok-way.way _ (exchange_in (get_or xs 2 0)) (exchange_in (get_or xs 3 0)) (way_of (get_or xs 4 0))
+    (result_ok (read_message (message_octets xs))) c.in_ok-from.ensures c.in_ok-to.ensures c.in_ok-way.ensures
+    (c.in_ok-circuit.ensures.value ∙ ap result_ok c.read.ensures.answer)
     ∙ octets_long xs long
