@@ -1,5 +1,5 @@
 -- What the arguments of a program ask for.
-use Rattle.std.specs.Prelude.{◌≡◌, ℕ, cond, List, [], ◌∷◌, ◌++◌, Ok, Err, codes, Result, ◌==◌, slice_index}
+use Rattle.std.specs.Prelude.{ℕ, cond, List, [], ◌∷◌, ◌++◌, Ok, Err, codes, Result, ◌==◌, slice_index}
 use Rattle.std.specs.Str.{bytes_eq as same_text}
 use Rattle.script.specs.declared.arguments.ArgumentError.{ArgumentError}
 use Rattle.script.specs.declared.arguments.ArgumentError.TheVariants as wrong

@@ -1,5 +1,5 @@
 -- What is written of a line that is none of the script's, and of the report.
-use Rattle.std.specs.Prelude.{ℕ, List, [], ◌∷◌, ◌++◌, codes, decimal}
+use Rattle.std.specs.Prelude.{ℕ, List, ◌∷◌, ◌++◌, codes, decimal}
 use Rattle.script.specs.declared.line.LineError.{LineError}
 use Rattle.script.specs.declared.line.LineError.TheVariants.{UnknownWord, OctetsMissing, NotOctets, Memory}
 use Rattle.script.specs.declared.report.CallCounts.{CallCounts}

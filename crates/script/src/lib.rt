@@ -1,4 +1,6 @@
 // The lines of a rehearsal script: what each says, and what it answers.
+#![tactic(auto)]
+
 mod answer;
 mod arguments;
 mod display;

@@ -1,5 +1,5 @@
 // One line of a script.
-ghost use Rattle.script.specs.Lines.{Gives, asked, asking, command as commandOf, meaning, number, octets as octets_of, read};
+ghost use Rattle.script.specs.Lines.{Gives, asked, asking, command as command_of, meaning, number, octets as octets_of, read};
 ghost use Rattle.script.specs.Texts.{error_text};
 ghost use Rattle.std.specs.Prelude.{◌≡◌, map, Some};
 ghost use Rattle.script.specs.declared.line.LineError.TheVariants.{Memory as memory};
@@ -85,7 +85,7 @@ fn read_line<'a>(heap: Global, more: &[&'a str]) -> Result<Line, LineError<'a>>
 
 // What a line with words asks for.
 fn command<'a>(heap: Global, first: &'a str, more: &[&'a str]) -> Result<Line, LineError<'a>>
-    ensures { Gives asked result (commandOf first.now (map (λ w. w.now) more.now)) }
+    ensures { Gives asked result (command_of first.now (map (λ w. w.now) more.now)) }
 {
     match first {
         "number" => number_line(heap, more, false),

@@ -1,7 +1,7 @@
 // What a whole script answers: its lines one by one, then the report.
 ghost use Rattle.script.specs.Lines.{meaning};
 ghost use Rattle.script.specs.Texts.{error_text};
-ghost use Rattle.script.specs.Transcripts.{adding, answer_line, error_line, reply_to, said, told_by, told_of, transcript as transcriptOf};
+ghost use Rattle.script.specs.Transcripts.{adding, answer_line, error_line, reply_to, said, told_by, told_of, transcript as transcript_of};
 ghost use Rattle.script.specs.declared.line.LineError.TheVariants.{Memory as memory};
 ghost use Rattle.std.specs.Prelude.{◌≡◌, IfOk, string_bytes, OnOk, ◌≢◌};
 
@@ -90,7 +90,7 @@ fn carry_out(heap: Global, script: &str) -> Result<Transcript, AllocError>
 
 // Carries out a script: what it writes, with the report at the end, and the counts of its lines.
 pub fn rehearse(heap: Global, script: &str) -> Result<Transcript, AllocError>
-    ensures text { IfOk result (λ t. string_bytes t.text ≡ transcriptOf script.now) }
+    ensures text { IfOk result (λ t. string_bytes t.text ≡ transcript_of script.now) }
     ensures lines { IfOk result (λ t. t.lines ≡ (told_of script.now).lines_counted) }
 {
     let mut transcript = carry_out(heap, script)?;

@@ -10,8 +10,8 @@ pub returns-in-len1 : goal.returns-in-len1
 returns-in-len1 c =
     let some : 1 ≤ length c.args.arguments.now = search rules in
     let one : length c.args.arguments.now < 2 = search rules in
-    let word = c.as-str.ensures.value ∙ ap string_bytes c.word-item.is in
-    c.one-argument.ensures ∙ ap one_argument word ∙ an_argument string_bytes _ _ some one
+    let word = c.as_str.ensures.value ∙ ap string_bytes c.word-item.is in
+    c.one_argument.ensures ∙ ap one_argument word ∙ an_argument string_bytes _ _ some one
 
-pub returns-in-default : goal.returns-in-default
-returns-in-default c = let two : 2 ≤ length c.args.arguments.now = search rules in more_arguments _ _ two
+pub returns-in_default : goal.returns-in_default
+returns-in_default c = let two : 2 ≤ length c.args.arguments.now = search rules in more_arguments _ _ two

@@ -6,14 +6,14 @@ use Rattle.script.proofs.transcript.carry_out.Goals as goal
 
 pub loop-line-init : goal.loop-line-init
 loop-line-init c =
-    let whole = c.into-iter-line-iterator.ensures.into-iter-gives in
+    let whole = c.into_iter-line-iterator.ensures.into_iter_gives in
     let cut = c.split-line-items.ensures in
-    starts _ _ _ _ c.new.ensures.bytes c.none.ensures (ap split_text whole ∙ cut.text) (ap split_has_more whole ∙ cut.Has-more) (ap split_pattern whole ∙ cut.pattern)
+    starts _ _ _ _ c.new.ensures.bytes c.none.ensures (ap split_text whole ∙ cut.text) (ap split_has_more whole ∙ cut.has_more) (ap split_pattern whole ∙ cut.pattern)
 
 pub loop-line-preserved : goal.loop-line-preserved
 loop-line-preserved c =
-    let said = c.in-ok-add.ensures ∙ ap (λ s. adding s (told_by c.loop-line.transcript)) c.in-ok-reply-to.ensures in
-    subst (λ n. Sofar c.args.script.now n (told_by c.add.new.self) c.next.new.self) (sym c.saturating-add-number.ensures)
+    let said = c.in_ok-add.ensures ∙ ap (λ s. adding s (told_by c.loop-line.transcript)) c.in_ok-reply_to.ensures in
+    subst (λ n. Sofar c.args.script.now n (told_by c.add.new.self) c.next.new.self) (sym c.saturating_add-number.ensures)
     (goes_on c.loop-line.invariant c.next.new.self c.in-Some.line (told_by c.add.new.self) c.in-Some.ensures.steps said)
 
 pub returns : goal.returns

@@ -6,18 +6,18 @@ use Rattle.script.proofs.words.add_octets.Goals as goal
 
 pub loop-pair-init : goal.loop-pair-init
 loop-pair-init c =
-    let same = c.into-iter-pair-iterator.ensures.into-iter-gives in
+    let same = c.into_iter-pair-iterator.ensures.into_iter_gives in
     let told = c.chunks-pair-items.ensures in
-    starts _ _ _ (ap chunks_size same ∙ told.size) (ap chunks_rest same ∙ told.rest ∙ c.as-bytes.ensures.value)
+    starts _ _ _ (ap chunks_size same ∙ told.size) (ap chunks_rest same ∙ told.rest ∙ c.as_bytes.ensures.value)
 
 pub loop-pair-preserved : goal.loop-pair-preserved
 loop-pair-preserved c =
-    let pushed = chosen _ _ _ _ c.push.ensures.items (ap is_ok c.in-ok-push.was) in
+    let pushed = chosen _ _ _ _ c.push.ensures.items (ap is_ok c.in_ok-push.was) in
     let next = next-octet c.loop-pair.invariant c.next.new.self c.in-Some.pair c.in-Some.ensures.steps c.in-Some-octet.octet (sym c.in-Some-octet.ensures) in
     subst (λ l. Sofar c.args.word.now (vec_items c.args.octets.now) l c.next.new.self) (sym pushed) next
 
-pub returns-in-default : goal.returns-in-default
-returns-in-default c = no-octet c.loop-pair.invariant c.next.new.self c.in-Some.pair c.in-Some.ensures.steps (sym c.in-default.ensures)
+pub returns-in_default : goal.returns-in_default
+returns-in_default c = no-octet c.loop-pair.invariant c.next.new.self c.in-Some.pair c.in-Some.ensures.steps (sym c.in_default.ensures)
 
 pub returns : goal.returns
 returns c = done c.loop-pair.invariant c.next.new.self c.in-None.ensures.steps

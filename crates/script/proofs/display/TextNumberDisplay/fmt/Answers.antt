@@ -17,7 +17,7 @@ loop-digit-init g c = λ plain. record { wrote = writes_in_calls_nil g.W.Write.w
 pub loop-digit-preserved : goal.loop-digit-preserved
 loop-digit-preserved g c = λ plain.
     let old = c.loop-digit.invariant plain in
-    let one = c.in-ok-write.ensures.shows old.plain refl in
+    let one = c.in_ok-write.ensures.writes old.plain refl in
     has_written_of_eq _ _ _ _ _ (text_more _ _ c.loop-digit-test.true) (has_written_append _ _ _ _ _ _ old one)
 
 pub returns-clause-writes : goal.returns-clause-writes
