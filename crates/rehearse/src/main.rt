@@ -1,4 +1,6 @@
 // Carries out a script from a file or from standard input.
+#![tactic(auto)]
+
 use anyhow::anyhow;
 use script::{Source, USAGE, run, source_of};
 use std::io::Read;

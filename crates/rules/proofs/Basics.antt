@@ -73,9 +73,9 @@ signals-++ c (e ∷ xs) ys =
     (λ q. ap (λ zs. e ∷ zs) (signals-++ c xs ys)) (λ q. signals-++ c xs ys)
 
 -- none of these goes from a to b
-abbrev pub NoneFrom_lem : {N : Type 0} → ℕ → ℕ → List (Signal N) → Type 0
-NoneFrom_lem a b [] = Unit {0}
-NoneFrom_lem a b (e ∷ es) = (between a b e ≡ false) × NoneFrom_lem a b es
+abbrev pub NonePasses : {N : Type 0} → ℕ → ℕ → List (Signal N) → Type 0
+NonePasses a b [] = Unit {0}
+NonePasses a b (e ∷ es) = (between a b e ≡ false) × NonePasses a b es
 
 -- the earliest signal, with those before and behind it
 pub record Splits {N : Type 0} (a b : ℕ) (ws : List (Signal N)) (e : Signal N) : Type 0 where
@@ -83,7 +83,7 @@ pub record Splits {N : Type 0} (a b : ℕ) (ws : List (Signal N)) (e : Signal N)
   pub behind : List (Signal N)
   pub whole : ws ≡ before ++ (e ∷ behind)
   pub left : without_earliest (between a b) ws ≡ before ++ behind
-  pub first : NoneFrom_lem a b before
+  pub first : NonePasses a b before
   pub from : e.from ≡ a
   pub to : e.to ≡ b
 

@@ -1,4 +1,6 @@
 // The rules of the network: what each call does, the ledger that is kept of them, and the laws of every run.
+#![tactic(auto)]
+
 pub mod arrival;
 pub mod laws;
 pub mod leg;

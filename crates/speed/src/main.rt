@@ -1,4 +1,6 @@
 // How long it takes to read a message and to write it.
+#![tactic(auto)]
+
 use anyhow::anyhow;
 use decode::reading::read;
 use encode::write;

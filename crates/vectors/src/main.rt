@@ -1,4 +1,6 @@
 // Carries out the stored vectors from standard input.
+#![tactic(auto)]
+
 use script::run;
 use std::io::Read;
 
