@@ -4,6 +4,7 @@
 use anyhow::anyhow;
 use script::{Source, USAGE, run, source_of};
 use std::io::Read;
+use std::process::ExitCode;
 use std::{env, fs};
 
 fn run_input(rt: &HostRuntime) -> anyhow::Result<()> {
@@ -22,19 +23,27 @@ fn run_file(rt: &HostRuntime, name: &str) -> anyhow::Result<()> {
     }
 }
 
-fn main(rt: HostRuntime) -> anyhow::Result<()> {
-    let arguments: Vec<String> = env::args(&rt)?.skip(1).collect(rt.alloc())?;
+fn run_arguments(rt: &HostRuntime) -> anyhow::Result<()> {
+    let arguments: Vec<String> = env::args(rt)?.skip(1).collect(rt.alloc())?;
     match source_of(arguments.as_slice()) {
         Ok(Source::Help) => {
             print!(rt; "{USAGE}")?;
             Ok(())
         }
-        Ok(Source::Input) => run_input(&rt),
-        Ok(Source::File(name)) => run_file(&rt, name),
+        Ok(Source::Input) => run_input(rt),
+        Ok(Source::File(name)) => run_file(rt, name),
         Err(error) => {
             eprintln!(rt; "rehearse: {error} (see rehearse --help)")?;
             Err(anyhow!("wrong arguments"))
         }
+    }
+}
+
+// The status says that something went wrong; the answers, or a line on standard error, have said what.
+fn main(rt: HostRuntime) -> ExitCode {
+    match run_arguments(&rt) {
+        Ok(()) => ExitCode::SUCCESS,
+        Err(_) => ExitCode::FAILURE,
     }
 }
 
