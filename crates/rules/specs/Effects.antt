@@ -1,7 +1,6 @@
 -- What happens to one call: when a message reaches an end of one of its legs, when a line reports, when the caller hangs up.
-use Rattle.std.specs.Prelude.{ℕ, zero, suc, Bool, true, false, cond, not, ◌&&◌, ◌||◌, List, [], ◌∷◌, ◌++◌, Some, None, Option, ◌==◌, nat_lt, slice_set}
+use Rattle.std.specs.Prelude.{ℕ, zero, suc, Bool, true, false, cond, ◌&&◌, ◌||◌, List, [], ◌∷◌, ◌++◌, Some, None, Option, ◌==◌, nat_lt, slice_set}
 use Rattle.std.specs.List.{slice_get}
-use Rattle.isup.specs.declared.message.Backward.{Backward}
 use Rattle.isup.specs.declared.message.Cause.{Cause}
 use Rattle.isup.specs.declared.message.Exchange.{Exchange}
 use Rattle.isup.specs.declared.message.LineStatus.TheVariants.{Free}

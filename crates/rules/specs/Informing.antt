@@ -9,7 +9,6 @@ use Rattle.isup.specs.declared.message.Notification.{Notification}
 use Rattle.isup.specs.declared.message.Notification.TheVariants as notification
 use Rattle.isup.specs.declared.message.Restriction.{Restriction}
 use Rattle.isup.specs.declared.message.Restriction.TheVariants.{Allowed, Restricted}
-use Rattle.isup.specs.declared.message.Way.{Way}
 use Rattle.isup.specs.declared.message.Way.TheVariants.{Back}
 use Rattle.options.specs.declared.record.NotificationOption.{NotificationOption}
 use Rattle.options.specs.declared.record.NotificationOption.TheVariants.{NotAllowed, WithNumber, WithoutNumber}

@@ -1,5 +1,5 @@
 -- The laws of diverted initial addresses, of the limit, and of the numbers shown, said of a transcript and the ledger.
-use Rattle.std.specs.Prelude.{◌≡◌, ℕ, zero, suc, ◌<◌, ◌≤◌, max, Bool, true, false, cond, not, ◌&&◌, List, [], ◌∷◌, length, Some, None, Option, nat_lt}
+use Rattle.std.specs.Prelude.{◌≡◌, ℕ, suc, ◌<◌, ◌≤◌, max, Bool, true, false, cond, not, ◌&&◌, List, [], ◌∷◌, length, Some, None, Option, nat_lt}
 use Rattle.std.specs.List.{slice_get}
 use Rattle.numbers.specs.declared.number.Party.{Party}
 use Rattle.isup.specs.declared.message.Backward.{Backward}
