@@ -72,11 +72,11 @@ initial_fits (Some x) = record { within = λ n k. grind (arith, nat_tests); fiel
 initial_fits None = record { within = λ n k. grind (arith, nat_tests); fields = λ n k. grind (arith, nat_tests) }
 
 backward_fits : (b : Backward Number) → Fits row.Backward (backward_gathered b.may_divert b.notice b.restriction) (backward_field b)
-backward_fits b = at-notice b.notice refl
+backward_fits b = at_notice b.notice refl
   where
-    at-notice : (n : Option (Notice Number)) → b.notice ≡ n → Fits row.Backward (backward_gathered b.may_divert b.notice b.restriction) (backward_field b)
-    at-notice (Some x) e = record { within = λ n k. grind (arith, nat_tests); fields = λ n k. grind (arith, nat_tests) }
-    at-notice None e = record { within = λ n k. grind (arith, nat_tests); fields = λ n k. grind (arith, nat_tests) }
+    at_notice : (n : Option (Notice Number)) → b.notice ≡ n → Fits row.Backward (backward_gathered b.may_divert b.notice b.restriction) (backward_field b)
+    at_notice (Some x) e = record { within = λ n k. grind (arith, nat_tests); fields = λ n k. grind (arith, nat_tests) }
+    at_notice None e = record { within = λ n k. grind (arith, nat_tests); fields = λ n k. grind (arith, nat_tests) }
 
 connected_fits : (r : Option Restriction) → Fits row.Connected (backward_gathered false None r) (λ n. if_there restriction_octets r)
 connected_fits r = record { within = λ n k. grind (arith, nat_tests); fields = λ n k. grind (arith, nat_tests) }

@@ -139,20 +139,20 @@ there_once : {X : Type 0} (f : X → List ℕ) (o : Option X) → length (if_the
 there_once f (Some x) = omega arith
 there_once f None = omega arith
 
-cond-once : {A : Type 0} (b : Bool) (x y : List A) → length x ≤ 1 → length y ≤ 1 → length (cond b x y) ≤ 1
-cond-once true x y h k = h
-cond-once false x y h k = k
+cond_once : {A : Type 0} (b : Bool) (x y : List A) → length x ≤ 1 → length y ≤ 1 → length (cond b x y) ≤ 1
+cond_once true x y h k = h
+cond_once false x y h k = k
 
 once : (t : Gathered Number) (n : ℕ) → length (gathered_field t n) ≤ 1
 once t n =
-    cond-once (eqb n 0x0B) _ _ (there_once content t.redirecting)
-    (cond-once (eqb n 0x28) _ _ (there_once content t.original)
-    (cond-once (eqb n 0x13) _ _ (there_once information_octets t.information)
-    (cond-once (eqb n 0x29) _ _ (cond-once t.may_divert _ _ (omega arith) (omega arith))
-    (cond-once (eqb n 0x2C) _ _ (cond-once t.announced _ _ (omega arith) (omega arith))
-    (cond-once (eqb n 0x36) _ _ (there_once diversion_octets t.diversion)
-    (cond-once (eqb n 0x0C) _ _ (there_once plain t.redirection)
-    (cond-once (eqb n 0x40) _ _ (there_once restriction_octets t.restriction) (omega arith))))))))
+    cond_once (eqb n 0x0B) _ _ (there_once content t.redirecting)
+    (cond_once (eqb n 0x28) _ _ (there_once content t.original)
+    (cond_once (eqb n 0x13) _ _ (there_once information_octets t.information)
+    (cond_once (eqb n 0x29) _ _ (cond_once t.may_divert _ _ (omega arith) (omega arith))
+    (cond_once (eqb n 0x2C) _ _ (cond_once t.announced _ _ (omega arith) (omega arith))
+    (cond_once (eqb n 0x36) _ _ (there_once diversion_octets t.diversion)
+    (cond_once (eqb n 0x0C) _ _ (there_once plain t.redirection)
+    (cond_once (eqb n 0x40) _ _ (there_once restriction_octets t.restriction) (omega arith))))))))
 
 alone : {A : Type 0} (x : A) (xs l : List A) → x ∷ xs ≡ l → length l ≤ 1 → xs ≡ []
 alone x [] l e h = refl

@@ -72,9 +72,9 @@ carries (Answer r) = restriction_carries r
 carries (Connect r) = restriction_carries r
 carries (Release c) = λ n h. refl
 
-named-append : (ps qs : List Parameter) → Named ps → Named qs → Named (ps ++ qs)
-named-append [] qs a b = b
-named-append (p ∷ ps) qs a b = (a.0, named-append ps qs a.1 b)
+named_append : (ps qs : List Parameter) → Named ps → Named qs → Named (ps ++ qs)
+named_append [] qs a b = b
+named_append (p ∷ ps) qs a b = (a.0, named_append ps qs a.1 b)
 
 redirection_named : (r : Option (Redirection Number)) → Named (redirection_sent r)
 redirection_named (Some r) = ((λ e. omega arith), ((λ e. omega arith), ((λ e. omega arith), tt)))
@@ -94,8 +94,8 @@ restriction_named None = tt
 
 backward_named : (b : Backward Number) → Named (backward_sent b)
 backward_named b =
-    named-append (may_divert_sent b.may_divert) (notice_sent b.notice ++ restriction_sent b.restriction) (may_divert_named b.may_divert)
-    (named-append (notice_sent b.notice) (restriction_sent b.restriction) (notice_named b.notice) (restriction_named b.restriction))
+    named_append (may_divert_sent b.may_divert) (notice_sent b.notice ++ restriction_sent b.restriction) (may_divert_named b.may_divert)
+    (named_append (notice_sent b.notice) (restriction_sent b.restriction) (notice_named b.notice) (restriction_named b.restriction))
 
 sent_named : (m : Message Number) → Named (sent m)
 sent_named (InitialAddress s c r) = redirection_named r

@@ -44,9 +44,9 @@ length-written c (Answer r) = let a = length_optional (restriction_sent r) in om
 length-written c (Connect r) = let a = length_optional (restriction_sent r) in omega arith
 length-written c (Release x) = refl
 
-parameters-append : (ps qs : List Parameter) → parameters_size (ps ++ qs) ≡ parameters_size ps + parameters_size qs
-parameters-append [] qs = omega arith
-parameters-append (p ∷ ps) qs = let a = parameters-append ps qs in omega arith
+parameters_append : (ps qs : List Parameter) → parameters_size (ps ++ qs) ≡ parameters_size ps + parameters_size qs
+parameters_append [] qs = omega arith
+parameters_append (p ∷ ps) qs = let a = parameters_append ps qs in omega arith
 
 optional_short : (ps : List Parameter) (n : ℕ) → parameters_size ps ≤ n → optional_size ps ≤ n + 1
 optional_short [] n h = omega arith
@@ -77,7 +77,7 @@ backward_short b =
     let n = notice_sent b.notice in
     let r = restriction_sent b.restriction in
     omega
-    (arith, parameters-append m (n ++ r), parameters-append n r, may_divert_short b.may_divert, notice_short b.notice, restriction_short b.restriction)
+    (arith, parameters_append m (n ++ r), parameters_append n r, may_divert_short b.may_divert, notice_short b.notice, restriction_short b.restriction)
 
 -- the longest message has 50 octets
 pub message_short : (m : Message Number) → size_of m ≤ 50

@@ -43,8 +43,8 @@ added-map f room xs x y e =
     ∙ ap (λ t. cond t (map f xs) (map f xs ++ (f x ∷ []))) (full_map f room xs)
     ∙ ap (λ v. added room (map f xs) v) e
 
-pub answer-map :
+pub answer_map :
     {X Y : Type 0} (f : X → Y) (room : ℕ) (xs : List X) (t : Bool) → t ≡ is_full room xs →
     ◌≡◌ {A = Result (Unit {0}) Refusal} (cond t (Err Full) (Ok tt)) (put_answer room (map f xs))
-answer-map f room xs t e =
+answer_map f room xs t e =
     ap (λ (b : Bool). cond {A = Result (Unit {0}) Refusal} b (Err Full) (Ok tt)) (e ∙ full_map f room xs)

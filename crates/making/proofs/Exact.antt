@@ -254,11 +254,11 @@ release_sound n o m e =
 branch :
     (k t : ℕ) (n : Mandatory) (o : Optional) (m : Message Number) (x y : Option (Message Number)) →
     (x ≡ Some m → Row t n o m) → (y ≡ Some m → Row k n o m) → cond (eqb k t) x y ≡ Some m → Row k n o m
-branch k t n o m x y f g e = by-test (eqb k t) refl e
+branch k t n o m x y f g e = by_test (eqb k t) refl e
   where
-    by-test : (b : Bool) → eqb k t ≡ b → cond b x y ≡ Some m → Row k n o m
-    by-test true h e = subst (λ (z : ℕ). Row z n o m) (sym (eqb-true k t h)) (f e)
-    by-test false h e = g e
+    by_test : (b : Bool) → eqb k t ≡ b → cond b x y ≡ Some m → Row k n o m
+    by_test true h e = subst (λ (z : ℕ). Row z n o m) (sym (eqb-true k t h)) (f e)
+    by_test false h e = g e
 
 message_sound : (k : ℕ) (n : Mandatory) (o : Optional) (m : Message Number) → message_in k n o ≡ Some m → Row k n o m
 message_sound k n o m =

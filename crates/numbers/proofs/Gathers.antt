@@ -12,8 +12,8 @@ use Rattle.numbers.specs.Gathering.{gathered}
 pub length-gathered : (g : Digits) → length (gathered g) ≡ g.count
 length-gathered g = length-take-le g.count g.digits (omega (arith, g.high, g.whole))
 
-pub low-set : (all : List ℕ) (k d : ℕ) → k < length all → d ≤ 9 → ((j : ℕ) → get_or all j 0 ≤ 9) → (j : ℕ) → get_or (set all k d) j 0 ≤ 9
-low-set all k d h l f j =
+pub low_set : (all : List ℕ) (k d : ℕ) → k < length all → d ≤ 9 → ((j : ℕ) → get_or all j 0 ≤ 9) → (j : ℕ) → get_or (set all k d) j 0 ≤ 9
+low_set all k d h l f j =
     elim (eqb_tells j k) [
       | inl p ↦ subst (λ (m : ℕ). get_or (set all k d) m 0 ≤ 9) (sym p.1) (let s = get_or-set_same all k d 0 h in omega arith)
       | inr p ↦ (let ne : j ≢ k = p.1 in let s = get_or-set_other all k j d 0 ne in omega (arith, f j))

@@ -83,10 +83,10 @@ lawful_digits n =
     let l = length_digits n in
     let lo = n.low in
     let hi = n.high in
-    record { few = omega arith; many = omega arith; each = λ k. getD-take-low n.count n.digits n.each k }
+    record { few = omega arith; many = omega arith; each = λ k. get_or_take_low n.count n.digits n.each k }
   where
-    getD-take-low : (c : ℕ) (ds : List ℕ) → ((k : ℕ) → get_or ds k 0 ≤ 9) → (k : ℕ) → get_or (take c ds) k 0 ≤ 9
-    getD-take-low zero ds f k = omega arith
-    getD-take-low (suc c) [] f k = omega arith
-    getD-take-low (suc c) (d ∷ ds) f zero = f 0
-    getD-take-low (suc c) (d ∷ ds) f (suc k) = getD-take-low c ds (λ j. f (suc j)) k
+    get_or_take_low : (c : ℕ) (ds : List ℕ) → ((k : ℕ) → get_or ds k 0 ≤ 9) → (k : ℕ) → get_or (take c ds) k 0 ≤ 9
+    get_or_take_low zero ds f k = omega arith
+    get_or_take_low (suc c) [] f k = omega arith
+    get_or_take_low (suc c) (d ∷ ds) f zero = f 0
+    get_or_take_low (suc c) (d ∷ ds) f (suc k) = get_or_take_low c ds (λ j. f (suc j)) k

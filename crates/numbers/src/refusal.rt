@@ -14,7 +14,7 @@ pub enum Refusal {
     NotHeld,
     // Something waits on the carrier that a network is to be set up with.
     NotEmpty,
-    // There is no room on the carrier for what would be sent.
+    // As many wait on the carrier as it has room for.
     Full,
     // The number has no route.
     NoRoute,

@@ -9,11 +9,11 @@ without_by :
     earliest q (others p ys) ≡ cond b None (earliest q ys) → earliest q (others p (y ∷ ys)) ≡ cond b None (earliest q (y ∷ ys))
 without_by p q b y ys true true t w h ih =
     let o = others p ys in
-    let b-true : b ≡ true = sym (h w) ∙ t in
+    let b_true : b ≡ true = sym (h w) ∙ t in
     ap (λ c. earliest q (cond (not c) (y ∷ o) o)) t
     ∙ ih
-    ∙ ap (λ c. cond c None (earliest q ys)) b-true
-    ∙ sym (ap (λ c. cond c None (earliest q (y ∷ ys))) b-true)
+    ∙ ap (λ c. cond c None (earliest q ys)) b_true
+    ∙ sym (ap (λ c. cond c None (earliest q (y ∷ ys))) b_true)
 without_by p q b y ys true false t w h ih =
     let o = others p ys in
     ap (λ c. earliest q (cond (not c) (y ∷ o) o)) t
@@ -21,11 +21,11 @@ without_by p q b y ys true false t w h ih =
     ∙ sym (ap (λ c. cond b None (cond c (Some y) (earliest q ys))) w)
 without_by p q b y ys false true t w h ih =
     let o = others p ys in
-    let b-false : b ≡ false = sym (h w) ∙ t in
+    let b_false : b ≡ false = sym (h w) ∙ t in
     ap (λ c. earliest q (cond (not c) (y ∷ o) o)) t
     ∙ ap (λ c. cond c (Some y) (earliest q o)) w
     ∙ sym (ap (λ c. cond c (Some y) (earliest q ys)) w)
-    ∙ sym (ap (λ c. cond c None (earliest q (y ∷ ys))) b-false)
+    ∙ sym (ap (λ c. cond c None (earliest q (y ∷ ys))) b_false)
 without_by p q b y ys false false t w h ih =
     let o = others p ys in
     ap (λ c. earliest q (cond (not c) (y ∷ o) o)) t
@@ -69,9 +69,9 @@ length_without p xs =
     let n = length-filter p xs in
     omega arith
 
-count-cons :
+count_cons :
     {X : Type 0} (q : X → Bool) (y : X) (ys : List X) (b : Bool) → q y ≡ b → count_by q (y ∷ ys) ≡ cond b 1 0 + count_by q ys
-count-cons q y ys b t = sum_by-cons (λ x. cond (q x) 1 0) y ys ∙ ap (λ b. cond b 1 0 + count_by q ys) t
+count_cons q y ys b t = sum_by-cons (λ x. cond (q x) 1 0) y ys ∙ ap (λ b. cond b 1 0 + count_by q ys) t
 
 -- one more at the end
 pub count_push :
@@ -83,7 +83,7 @@ none_by :
     (is_some (earliest q ys) ≡ false → count_by q ys ≡ 0) → count_by q (y ∷ ys) ≡ 0
 none_by q y ys true t e ih = absurd (let z : ◌≡◌ {A = ℕ} 0 1 = cc in omega arith)
 none_by q y ys false t e ih =
-    let c : count_by q (y ∷ ys) ≡ 0 + count_by q ys = count-cons q y ys false t in
+    let c : count_by q (y ∷ ys) ≡ 0 + count_by q ys = count_cons q y ys false t in
     let n = ih e in
     omega arith
 
@@ -95,8 +95,8 @@ count_none q (y ∷ ys) e = none_by q y ys (q y) refl e (λ r. count_none q ys r
 some_by :
     {X : Type 0} (q : X → Bool) (y : X) (ys : List X) (b : Bool) → q y ≡ b → count_by q (y ∷ ys) ≡ 0 →
     (count_by q ys ≡ 0 → is_some (earliest q ys) ≡ false) → is_some (cond b (Some y) (earliest q ys)) ≡ false
-some_by q y ys true t e ih = absurd (let c : count_by q (y ∷ ys) ≡ 1 + count_by q ys = count-cons q y ys true t in omega arith)
-some_by q y ys false t e ih = ih (let c : count_by q (y ∷ ys) ≡ 0 + count_by q ys = count-cons q y ys false t in omega arith)
+some_by q y ys true t e ih = absurd (let c : count_by q (y ∷ ys) ≡ 1 + count_by q ys = count_cons q y ys true t in omega arith)
+some_by q y ys false t e ih = ih (let c : count_by q (y ∷ ys) ≡ 0 + count_by q ys = count_cons q y ys false t in omega arith)
 
 -- where none is counted, none fits
 pub none_counted : {X : Type 0} (q : X → Bool) (xs : List X) → count_by q xs ≡ 0 → is_some (earliest q xs) ≡ false

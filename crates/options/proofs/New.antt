@@ -103,10 +103,10 @@ new_counted number All kind r n s k =
     ∙ ap (λ v. ((0 + cond (b Speech) 1 0) + cond (b Digital64) 1 0) + cond v 1 0) (fits_new number kind r Audio n s k)
     ∙ three_counted s (same_number number n) (same_kind kind k)
 
-new-length :
+new_length :
     (number : Number) (services : Services) (kind : Kind) (r : Record Number) → length (new_cells number services kind r) ≡ service_count services
-new-length number (One t) kind r = refl
-new-length number All kind r = refl
+new_length number (One t) kind r = refl
+new_length number All kind r = refl
 
 -- no new cell holds that a number is withheld
 new_withheld :
@@ -157,7 +157,7 @@ diverted_new cells number services kind r =
           ∙ withheld_without cells number services kind n;
       count =
           (let joined = length-append (others p cells) new in
-          let l = new-length number services kind r in
+          let l = new_length number services kind r in
           let h = length_without p cells in
           omega arith);
       single = λ σ. record {

@@ -39,7 +39,7 @@ fn run_arguments(rt: &HostRuntime) -> anyhow::Result<()> {
     }
 }
 
-// The status says that something went wrong; the answers, or a line on standard error, have said what.
+// The status says that something went wrong. What was wrong with the script, its file or the arguments has been told by then.
 fn main(rt: HostRuntime) -> ExitCode {
     match run_arguments(&rt) {
         Ok(()) => ExitCode::SUCCESS,

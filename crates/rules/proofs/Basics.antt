@@ -110,7 +110,7 @@ earliest_splits a b (x ∷ xs) e q =
     })
     refl q
 
-pub at-set-is : {A : Type 0} (xs : List (Option A)) (k : ℕ) (v : Option A) (a : A) → at (set xs k v) k ≡ Some a → v ≡ Some a
-at-set-is [] k v a e = absurd (none_some e)
-at-set-is (x ∷ xs) zero v a e = e
-at-set-is (x ∷ xs) (suc k) v a e = at-set-is xs k v a e
+pub at_set_is : {A : Type 0} (xs : List (Option A)) (k : ℕ) (v : Option A) (a : A) → at (set xs k v) k ≡ Some a → v ≡ Some a
+at_set_is [] k v a e = absurd (none_some e)
+at_set_is (x ∷ xs) zero v a e = e
+at_set_is (x ∷ xs) (suc k) v a e = at_set_is xs k v a e

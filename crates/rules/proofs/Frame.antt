@@ -20,29 +20,29 @@ use Rattle.rules.specs.declared.request.Answer.TheVariants as answer
 abbrev pub Pred : Type 0 → Type 1
 Pred N = ℕ → Account N → Call N → List (Signal N) → Type 0
 
-abbrev pub At-call : {N : Type 0} → Pred N → ℕ → Option (Account N) → Option (Call N) → List (Signal N) → Type 0
-At-call P c None None ws = ws ≡ []
-At-call P c None (Some d) ws = ⊥
-At-call P c (Some a) None ws = ⊥
-At-call P c (Some a) (Some d) ws = P c a d ws
+abbrev pub AtCall : {N : Type 0} → Pred N → ℕ → Option (Account N) → Option (Call N) → List (Signal N) → Type 0
+AtCall P c None None ws = ws ≡ []
+AtCall P c None (Some d) ws = ⊥
+AtCall P c (Some a) None ws = ⊥
+AtCall P c (Some a) (Some d) ws = P c a d ws
 
 pub record Inv {N : Type 0} (P : Pred N) (L : Ledger N) (g : State N) : Type 0 where
   pub size : length g.calls ≡ 64
-  pub each : (c : ℕ) → At-call P c (L c) (at g.calls c) (signals_for c g.waiting)
+  pub each : (c : ℕ) → AtCall P c (L c) (at g.calls c) (signals_for c g.waiting)
 
 pub frame : {N : Type 0} (P : Pred N) (L M : Ledger N) (g : State N) (c : ℕ) (v : Option (Call N)) (ws : List (Signal N)) →
     Inv P L g → c < 64 → ((j : ℕ) → (j ≡ c → ⊥) → M j ≡ L j) → ((j : ℕ) → (j ≡ c → ⊥) → signals_for j ws ≡ signals_for j g.waiting) →
-    At-call P c (M c) v (signals_for c ws) → Inv P M (record { calls = set g.calls c v; capacity = g.capacity; waiting = ws })
+    AtCall P c (M c) v (signals_for c ws) → Inv P M (record { calls = set g.calls c v; capacity = g.capacity; waiting = ws })
 frame P L M g c v ws h lt ml mw here =
     record {
       size = length-set g.calls c v ∙ h.size;
       each = λ j. ⊎_elim
-          (λ (e : j ≡ c). subst (λ k. At-call P k (M k) (at (set g.calls c v) k) (signals_for k ws)) (sym e)
-          (subst (λ o. At-call P c (M c) o (signals_for c ws)) (sym (at_set_same g.calls c v (subst (λ n. c < n) (sym h.size) lt))) here))
+          (λ (e : j ≡ c). subst (λ k. AtCall P k (M k) (at (set g.calls c v) k) (signals_for k ws)) (sym e)
+          (subst (λ o. AtCall P c (M c) o (signals_for c ws)) (sym (at_set_same g.calls c v (subst (λ n. c < n) (sym h.size) lt))) here))
           (λ (n : j ≡ c → ⊥).
-          subst (λ o. At-call P j o (at (set g.calls c v) j) (signals_for j ws)) (sym (ml j n))
-          (subst (λ o. At-call P j (L j) o (signals_for j ws)) (sym (at_set_other g.calls c j v n))
-          (subst (λ xs. At-call P j (L j) (at g.calls j) xs) (sym (mw j n)) (h.each j))))
+          subst (λ o. AtCall P j o (at (set g.calls c v) j) (signals_for j ws)) (sym (ml j n))
+          (subst (λ o. AtCall P j (L j) o (signals_for j ws)) (sym (at_set_other g.calls c j v n))
+          (subst (λ xs. AtCall P j (L j) (at g.calls j) xs) (sym (mw j n)) (h.each j))))
           (cases_eq j c);
     }
 
@@ -181,7 +181,7 @@ holds {N} P s L m g q c x y d taken rest f a add eadd h ed ex ey oy mi or re lo 
           (frame P L (with_addition (keeps L m q) add) g c (Some f.call) (rest ++ f.sent) h below
           (λ j n. grows_other (keeps L m q) c j add mi n ∙ oy j n)
           (λ j n. signals-++ j rest f.sent ∙ ap (λ zs. signals_for j rest ++ zs) (of_call_other c j f.sent n lo.mine) ∙ nil-++ (signals_for j rest) ∙ or j n)
-          (subst₂ (λ o zs. At-call P c o (Some f.call) zs) (sym mc) (sym ws) lo.keeps)),
+          (subst₂ (λ o zs. AtCall P c o (Some f.call) zs) (sym mc) (sym ws) lo.keeps)),
     )
 
 -- the addition that a diversion by a record makes

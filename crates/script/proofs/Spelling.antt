@@ -57,14 +57,14 @@ module _ {word start items : List ℕ} {left : Chunks ℕ} (old : Sofar word sta
     long : length x.now ≡ min 2 (length (x.now ++ chunks_rest more))
     long = rw (old.two, step.1.0) at step.1.1
 
-    pub next-octet : (o : ℕ) → octet_of x.now ≡ Some o → Sofar word start (items ++ (o ∷ [])) more
-    next-octet o is = record {
+    pub next_octet : (o : ℕ) → octet_of x.now ≡ Some o → Sofar word start (items ++ (o ∷ [])) more
+    next_octet o is = record {
       two = step.0 ∙ old.two;
       sofar = sym (adds word items x.now (chunks_rest more) o (omega (arith, long)) is) ∙ rw step.1.0 at old.sofar;
     }
 
-    pub no-octet : octet_of x.now ≡ None → after start (spelt word) ≡ Err (wrong word)
-    no-octet is = sym (rw step.1.0 at old.sofar) ∙ stops word items x.now (chunks_rest more) long (rw step.1.0 at step.1.2) is
+    pub no_octet : octet_of x.now ≡ None → after start (spelt word) ≡ Err (wrong word)
+    no_octet is = sym (rw step.1.0 at old.sofar) ∙ stops word items x.now (chunks_rest more) long (rw step.1.0 at step.1.2) is
 
 -- ---- word by word
 

@@ -36,8 +36,8 @@ module _ {script : List ℕ} {number : ℕ} {told : Told} {left : Split ℕ} (ol
   pub ends : Steps left None after → told ≡ told_of script
   ends step = rw (no_piece left after step) at old.sofar
 
-  pub goes_on : (x : Bor (List ℕ)) (now-told : Told) → Steps left (Some x) after → now-told ≡ adding (reply_to number (meaning x.now)) told → Sofar script (more number) now-told after
-  goes_on x now-told step is = record {
+  pub goes_on : (x : Bor (List ℕ)) (now_told : Told) → Steps left (Some x) after → now_told ≡ adding (reply_to number (meaning x.now)) told → Sofar script (more number) now_told after
+  goes_on x now_told step is = record {
     sofar = rw is (rw (next_piece left after x (omega (arith, old.at)) step) at old.sofar);
     at = step.1.0 ∙ old.at;
   }

@@ -1,6 +1,6 @@
 use Rattle.std.proofs.Common.{◌<◌, length, ◌∙◌, arith}
 use Rattle.std.proofs.lemmas.List.{length-set, take_more_set}
-use Rattle.numbers.proofs.Gathers.{low-set, zero_set}
+use Rattle.numbers.proofs.Gathers.{low_set, zero_set}
 use Rattle.numbers.proofs.number.Digits.add.Goals as goal
 
 pub invariant_of-self : goal.invariant_of-self
@@ -10,7 +10,7 @@ invariant_of-self c =
     record {
       whole = length-set g.digits g.count c.args.digit ∙ g.whole;
       high = omega arith;
-      each = low-set g.digits g.count c.args.digit lt (omega arith) g.each;
+      each = low_set g.digits g.count c.args.digit lt (omega arith) g.each;
       rest = zero_set g.digits g.count c.args.digit g.rest;
     }
 
