@@ -1,5 +1,4 @@
 // Comparing two numbers.
-ghost use Rattle.std.specs.Prelude.{◌≡◌};
 ghost use Rattle.std.specs.Cmp.Rules.{comparing};
 ghost use Rattle.std.proofs.Common.{rules};
 ghost use Rattle.numbers.specs.Comparing.{Compared, same_number};
