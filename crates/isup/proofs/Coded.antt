@@ -1,5 +1,8 @@
 -- What is found under a code or a number is the value with it, and each value is found.
-use Rattle.std.proofs.Common.{◌≡◌, ℕ, List, [], ◌∷◌, Some, sym, refl, arith}
+use Rattle.std.proofs.Common.{◌≡◌, ℕ, List, [], ◌∷◌, Some, None, ap, ◌∙◌, sym, refl, arith}
+use Rattle.std.proofs.Math.Decide.{dec_le}
+use Rattle.std.proofs.Math.Logic.{dite}
+use Rattle.std.proofs.lemmas.Option.{none-some}
 use Rattle.std.proofs.lemmas.Bool.Decides.{nat_tests}
 use Rattle.isup.specs.declared.message.Service.{Service}
 use Rattle.isup.specs.declared.message.Service.TheVariants as service
@@ -17,13 +20,11 @@ use Rattle.isup.specs.declared.message.Event.{Event}
 use Rattle.isup.specs.declared.message.Event.TheVariants as event
 use Rattle.isup.specs.declared.message.Way.{Way}
 use Rattle.isup.specs.declared.message.Way.TheVariants as way
-use Rattle.isup.specs.declared.message.Cause.{Cause}
-use Rattle.isup.specs.declared.message.Count.{Count}
-use Rattle.isup.specs.declared.message.Exchange.{Exchange}
+use Rattle.isup.specs.declared.message.Ranged.{Ranged}
 use Rattle.isup.specs.declared.message.Circuit.{Circuit}
 use Rattle.isup.specs.Codes.{with_code, service_code, service_of, reason_code, reason_of, notification_code, notification_of, indicator_code, indicator_of, restriction_code, restriction_of, status_code, status_of, event_code, event_of, way_code, way_of}
-use Rattle.isup.specs.Ranges.{cause_in, count_in, exchange_in, circuit_in}
-use Rattle.isup.proofs.Same.{cause_made, count_made, exchange_made, circuit_made}
+use Rattle.isup.specs.Ranges.{in_range, circuit_in}
+use Rattle.isup.proofs.Same.{ranged_made, none_below, none_above, circuit_made}
 
 -- a value found under a code has that code
 pub code_of_found : {A : Type 0} (code : A → ℕ) (xs : List A) (n : ℕ) (x : A) → with_code code xs n ≡ Some x → n ≡ code x
@@ -99,27 +100,22 @@ found_way way.Back = refl
 pub code_of_way : (n : ℕ) (x : Way) → way_of n ≡ Some x → n ≡ way_code x
 code_of_way = code_of_found way_code (way.Forward ∷ way.Back ∷ [])
 
-pub found_cause : (x : Cause) → cause_in x.value ≡ Some x
-found_cause x = sym (cause_made x)
-
-pub found_count : (x : Count) → count_in x.value ≡ Some x
-found_count x = sym (count_made x)
-
-pub found_exchange : (x : Exchange) → exchange_in x.value ≡ Some x
-found_exchange x = sym (exchange_made x)
+pub found_ranged : {low high : ℕ} (x : Ranged low high) → in_range low high x.value ≡ Some x
+found_ranged x = sym (ranged_made x)
 
 pub found_circuit : (x : Circuit) → circuit_in x.call x.leg ≡ Some x
 found_circuit x = sym (circuit_made x)
 
 -- a value found under a number has that number
-pub number_of_cause : (n : ℕ) (x : Cause) → cause_in n ≡ Some x → n ≡ x.value
-number_of_cause n x e = grind (arith, nat_tests)
+some_same : {A : Type 0} {x y : A} → Some x ≡ Some y → x ≡ y
+some_same e = cc
 
-pub number_of_count : (n : ℕ) (x : Count) → count_in n ≡ Some x → n ≡ x.value
-number_of_count n x e = grind (arith, nat_tests)
-
-pub number_of_exchange : (n : ℕ) (x : Exchange) → exchange_in n ≡ Some x → n ≡ x.value
-number_of_exchange n x e = grind (arith, nat_tests)
+pub number_of_ranged : (low high n : ℕ) (x : Ranged low high) → in_range low high n ≡ Some x → n ≡ x.value
+number_of_ranged low high n x e =
+    dite (dec_le low n)
+    (λ l. dite (dec_le n high) (λ h. ap (λ (y : Ranged low high). y.value) (some_same (ranged_made (record { value = n; low = l; high = h }) ∙ e)))
+        (λ not. absurd (none-some x (none_above low high n (omega arith) ∙ e))))
+    (λ not. absurd (none-some x (none_below low high n (omega arith) ∙ e)))
 
 pub numbers_of_circuit : (c l : ℕ) (x : Circuit) → circuit_in c l ≡ Some x → (c ≡ x.call) × (l ≡ x.leg)
 numbers_of_circuit c l x e = grind (arith, nat_tests)

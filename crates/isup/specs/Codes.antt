@@ -1,5 +1,9 @@
 -- The code of each value, and the value of each code.
-use Rattle.std.specs.Prelude.{ℕ, cond, List, [], ◌∷◌, Some, None, Option, ◌==◌}
+use Rattle.std.specs.Prelude.{ℕ, cond, List, [], ◌∷◌, Some, None, Option, Result, ◌==◌}
+use Rattle.std.specs.Option.{ok_or}
+use Rattle.isup.specs.declared.codes.UnknownCode.{UnknownCode}
+use Rattle.isup.specs.declared.message.MessageKind.{MessageKind}
+use Rattle.isup.specs.declared.message.MessageKind.TheVariants as kind
 use Rattle.isup.specs.declared.message.Service.{Service}
 use Rattle.isup.specs.declared.message.Service.TheVariants as service
 use Rattle.isup.specs.declared.message.Reason.{Reason}
@@ -58,6 +62,14 @@ abbrev pub way_code : Way → ℕ
 way_code way.Forward = 0
 way_code way.Back = 1
 
+abbrev pub kind_code : MessageKind → ℕ
+kind_code kind.InitialAddress = 0x01
+kind_code kind.AddressComplete = 0x06
+kind_code kind.CallProgress = 0x2C
+kind_code kind.Answer = 0x09
+kind_code kind.Connect = 0x07
+kind_code kind.Release = 0x0C
+
 -- the value among these whose code is n
 abbrev pub with_code : {A : Type 0} → (A → ℕ) → List A → ℕ → Option A
 with_code code [] n = None
@@ -88,3 +100,12 @@ event_of n = with_code event_code (event.Alerting ∷ event.Progress ∷ []) n
 
 abbrev pub way_of : ℕ → Option Way
 way_of n = with_code way_code (way.Forward ∷ way.Back ∷ []) n
+
+abbrev pub kind_of : ℕ → Option MessageKind
+kind_of n =
+    with_code kind_code
+    (kind.InitialAddress ∷ kind.AddressComplete ∷ kind.CallProgress ∷ kind.Answer ∷ kind.Connect ∷ kind.Release ∷ []) n
+
+-- what was found under a code, or the error that names the code
+abbrev pub known : {A : Type 0} → ℕ → Option A → Result A UnknownCode
+known code found = ok_or found (record { 0 = code })

@@ -1,34 +1,51 @@
 -- Values of the types that have a range: what lies outside is brought to the edge, or is none.
-use Rattle.std.specs.Prelude.{ℕ, ◌+◌, ◌*◌, ◌/◌, ◌%◌, min, max, cond, List, [], ◌∷◌, Some, None, Option, nat_lt}
+use Rattle.std.specs.Prelude.{ℕ, ◌+◌, ◌*◌, ◌/◌, ◌%◌, ◌≤◌, min, max, cond, List, [], ◌∷◌, Some, None, Option, nat_lt}
 use Rattle.std.proofs.Common.{arith}
-use Rattle.isup.specs.declared.message.Cause.{Cause}
-use Rattle.isup.specs.declared.message.Count.{Count}
-use Rattle.isup.specs.declared.message.Exchange.{Exchange}
+use Rattle.std.proofs.Math.Decide.{dec_le}
+use Rattle.std.proofs.Math.Logic.{dite}
+use Rattle.isup.specs.declared.message.Ranged.{Ranged}
 use Rattle.isup.specs.declared.message.Circuit.{Circuit}
 
+-- the number between low and high that is nearest to n
+abbrev pub nearest : (low high : ℕ) → low ≤ high → ℕ → Ranged low high
+nearest low high ordered n = record { value = max low (min n high); low = omega arith; high = omega arith }
+
+-- the number n, if it is from low to high
+abbrev pub in_range : (low high : ℕ) → ℕ → Option (Ranged low high)
+in_range low high n = dite (dec_le low n) (λ l. dite (dec_le n high) (λ h. Some (record { value = n; low = l; high = h })) (λ _. None)) (λ _. None)
+
+-- a cause is from 1 to 127
+abbrev pub Cause : Type 0
+Cause = Ranged 1 127
+
+-- a count of diversions is from 1 to 5
+abbrev pub Count : Type 0
+Count = Ranged 1 5
+
+-- an exchange is from 0 to 7
+abbrev pub Exchange : Type 0
+Exchange = Ranged 0 7
+
 abbrev pub cause_of : ℕ → Cause
-cause_of n = record { value = max 1 (min n 127); low = omega arith; high = omega arith }
+cause_of = nearest 1 127 (omega arith)
 
 abbrev pub count_of : ℕ → Count
-count_of n = record { value = max 1 (min n 5); low = omega arith; high = omega arith }
+count_of = nearest 1 5 (omega arith)
 
 abbrev pub exchange_of : ℕ → Exchange
-exchange_of n = record { value = min n 7; high = omega arith }
+exchange_of = nearest 0 7 (omega arith)
 
 abbrev pub circuit_of : ℕ → ℕ → Circuit
 circuit_of call leg = record { call = min call 63; leg = min leg 5; calls = omega arith; legs = omega arith }
 
--- the cause with a number from 1 to 127
 abbrev pub cause_in : ℕ → Option Cause
-cause_in n = cond (nat_lt n 1) None (cond (nat_lt 127 n) None (Some (cause_of n)))
+cause_in = in_range 1 127
 
--- the count with a number from 1 to 5
 abbrev pub count_in : ℕ → Option Count
-count_in n = cond (nat_lt n 1) None (cond (nat_lt 5 n) None (Some (count_of n)))
+count_in = in_range 1 5
 
--- the exchange with a number from 0 to 7
 abbrev pub exchange_in : ℕ → Option Exchange
-exchange_in n = cond (nat_lt 7 n) None (Some (exchange_of n))
+exchange_in = in_range 0 7
 
 -- the circuit of a call from 0 to 63 and a leg from 0 to 5
 abbrev pub circuit_in : ℕ → ℕ → Option Circuit

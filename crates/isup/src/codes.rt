@@ -1,193 +1,233 @@
 // The code of each value, and the value of each code.
 ghost use Rattle.std.specs.Prelude.{◌≡◌};
-ghost use Rattle.isup.specs.Codes.{service_code, service_of, reason_code, reason_of, notification_code, notification_of, indicator_code, indicator_of, restriction_code, restriction_of, status_code, status_of, event_code, event_of, way_code, way_of};
+ghost use Rattle.numbers.specs.declared.refusal.Refusal.TheVariants.{OutOfRange};
+ghost use Rattle.isup.specs.Codes.{known, kind_code, kind_of, service_code, service_of, reason_code, reason_of, notification_code, notification_of, indicator_code, indicator_of, restriction_code, restriction_of, status_code, status_of, event_code, event_of, way_code, way_of};
 
 use crate::message::{
-    Event, Indicator, LineStatus, Notification, Reason, Restriction, Service, Way,
+    Event, Indicator, LineStatus, MessageKind, Notification, Reason, Restriction, Service, Way,
 };
+use numbers::refusal::Refusal;
 
-impl Service {
-    pub fn code(self) -> u8
-        ensures { result ≡ service_code self }
-    {
-        match self {
-            Service::Speech => 0x00,
-            Service::Digital64 => 0x02,
-            Service::Audio => 0x03,
-        }
+// A code that no value has.
+#[derive(Clone, Copy, Debug, PartialEq, Eq)]
+pub struct UnknownCode(pub u8);
+
+// A code that no value has is out of range.
+impl From<UnknownCode> for Refusal {
+    ghost from_gives = { λ _ refusal. refusal ≡ OutOfRange };
+
+    fn from(_unknown: UnknownCode) -> Refusal {
+        Refusal::OutOfRange
     }
+}
 
-    pub fn from_code(code: u8) -> Option<Service>
-        ensures { result ≡ service_of code }
-    {
+impl From<Service> for u8 {
+    ghost from_gives = { λ service code. code ≡ service_code service };
+
+    fn from(service: Service) -> u8 {
+        service as u8
+    }
+}
+
+impl TryFrom<u8> for Service {
+    type Error = UnknownCode;
+
+    ghost try_from_gives = { λ code r. r ≡ known code (service_of code) };
+
+    fn try_from(code: u8) -> Result<Service, UnknownCode> {
         match code {
-            0x00 => Some(Service::Speech),
-            0x02 => Some(Service::Digital64),
-            0x03 => Some(Service::Audio),
-            _ => None,
+            0x00 => Ok(Service::Speech),
+            0x02 => Ok(Service::Digital64),
+            0x03 => Ok(Service::Audio),
+            _ => Err(UnknownCode(code)),
         }
     }
 }
 
-impl Reason {
-    pub fn code(self) -> u8
-        ensures { result ≡ reason_code self }
-    {
-        match self {
-            Reason::Unknown => 0,
-            Reason::Busy => 1,
-            Reason::NoReply => 2,
-            Reason::Unconditional => 3,
-            Reason::DeflectionAlerting => 4,
-            Reason::DeflectionImmediate => 5,
-            Reason::MobileUnreachable => 6,
-        }
-    }
+impl From<Reason> for u8 {
+    ghost from_gives = { λ reason code. code ≡ reason_code reason };
 
-    pub fn from_code(code: u8) -> Option<Reason>
-        ensures { result ≡ reason_of code }
-    {
+    fn from(reason: Reason) -> u8 {
+        reason as u8
+    }
+}
+
+impl TryFrom<u8> for Reason {
+    type Error = UnknownCode;
+
+    ghost try_from_gives = { λ code r. r ≡ known code (reason_of code) };
+
+    fn try_from(code: u8) -> Result<Reason, UnknownCode> {
         match code {
-            0 => Some(Reason::Unknown),
-            1 => Some(Reason::Busy),
-            2 => Some(Reason::NoReply),
-            3 => Some(Reason::Unconditional),
-            4 => Some(Reason::DeflectionAlerting),
-            5 => Some(Reason::DeflectionImmediate),
-            6 => Some(Reason::MobileUnreachable),
-            _ => None,
+            0 => Ok(Reason::Unknown),
+            1 => Ok(Reason::Busy),
+            2 => Ok(Reason::NoReply),
+            3 => Ok(Reason::Unconditional),
+            4 => Ok(Reason::DeflectionAlerting),
+            5 => Ok(Reason::DeflectionImmediate),
+            6 => Ok(Reason::MobileUnreachable),
+            _ => Err(UnknownCode(code)),
         }
     }
 }
 
-impl Notification {
-    pub fn code(self) -> u8
-        ensures { result ≡ notification_code self }
-    {
-        match self {
-            Notification::Unknown => 0,
-            Notification::NotAllowed => 1,
-            Notification::WithNumber => 2,
-            Notification::WithoutNumber => 3,
-        }
-    }
+impl From<Notification> for u8 {
+    ghost from_gives = { λ notification code. code ≡ notification_code notification };
 
-    pub fn from_code(code: u8) -> Option<Notification>
-        ensures { result ≡ notification_of code }
-    {
+    fn from(notification: Notification) -> u8 {
+        notification as u8
+    }
+}
+
+impl TryFrom<u8> for Notification {
+    type Error = UnknownCode;
+
+    ghost try_from_gives = { λ code r. r ≡ known code (notification_of code) };
+
+    fn try_from(code: u8) -> Result<Notification, UnknownCode> {
         match code {
-            0 => Some(Notification::Unknown),
-            1 => Some(Notification::NotAllowed),
-            2 => Some(Notification::WithNumber),
-            3 => Some(Notification::WithoutNumber),
-            _ => None,
+            0 => Ok(Notification::Unknown),
+            1 => Ok(Notification::NotAllowed),
+            2 => Ok(Notification::WithNumber),
+            3 => Ok(Notification::WithoutNumber),
+            _ => Err(UnknownCode(code)),
         }
     }
 }
 
-impl Indicator {
-    pub fn code(self) -> u8
-        ensures { result ≡ indicator_code self }
-    {
-        match self {
-            Indicator::Diverted => 3,
-            Indicator::AllRestricted => 4,
-            Indicator::NumberRestricted => 6,
-        }
-    }
+impl From<Indicator> for u8 {
+    ghost from_gives = { λ indicator code. code ≡ indicator_code indicator };
 
-    pub fn from_code(code: u8) -> Option<Indicator>
-        ensures { result ≡ indicator_of code }
-    {
+    fn from(indicator: Indicator) -> u8 {
+        indicator as u8
+    }
+}
+
+impl TryFrom<u8> for Indicator {
+    type Error = UnknownCode;
+
+    ghost try_from_gives = { λ code r. r ≡ known code (indicator_of code) };
+
+    fn try_from(code: u8) -> Result<Indicator, UnknownCode> {
         match code {
-            3 => Some(Indicator::Diverted),
-            4 => Some(Indicator::AllRestricted),
-            6 => Some(Indicator::NumberRestricted),
-            _ => None,
+            3 => Ok(Indicator::Diverted),
+            4 => Ok(Indicator::AllRestricted),
+            6 => Ok(Indicator::NumberRestricted),
+            _ => Err(UnknownCode(code)),
         }
     }
 }
 
-impl Restriction {
-    pub fn code(self) -> u8
-        ensures { result ≡ restriction_code self }
-    {
-        match self {
-            Restriction::Allowed => 0x00,
-            Restriction::Restricted => 0x01,
-        }
-    }
+impl From<Restriction> for u8 {
+    ghost from_gives = { λ restriction code. code ≡ restriction_code restriction };
 
-    pub fn from_code(code: u8) -> Option<Restriction>
-        ensures { result ≡ restriction_of code }
-    {
+    fn from(restriction: Restriction) -> u8 {
+        restriction as u8
+    }
+}
+
+impl TryFrom<u8> for Restriction {
+    type Error = UnknownCode;
+
+    ghost try_from_gives = { λ code r. r ≡ known code (restriction_of code) };
+
+    fn try_from(code: u8) -> Result<Restriction, UnknownCode> {
         match code {
-            0x00 => Some(Restriction::Allowed),
-            0x01 => Some(Restriction::Restricted),
-            _ => None,
+            0x00 => Ok(Restriction::Allowed),
+            0x01 => Ok(Restriction::Restricted),
+            _ => Err(UnknownCode(code)),
         }
     }
 }
 
-impl LineStatus {
-    pub fn code(self) -> u8
-        ensures { result ≡ status_code self }
-    {
-        match self {
-            LineStatus::Free => 0x04,
-            LineStatus::NoIndication => 0x00,
-        }
-    }
+impl From<LineStatus> for u8 {
+    ghost from_gives = { λ status code. code ≡ status_code status };
 
-    pub fn from_code(code: u8) -> Option<LineStatus>
-        ensures { result ≡ status_of code }
-    {
+    fn from(status: LineStatus) -> u8 {
+        status as u8
+    }
+}
+
+impl TryFrom<u8> for LineStatus {
+    type Error = UnknownCode;
+
+    ghost try_from_gives = { λ code r. r ≡ known code (status_of code) };
+
+    fn try_from(code: u8) -> Result<LineStatus, UnknownCode> {
         match code {
-            0x04 => Some(LineStatus::Free),
-            0x00 => Some(LineStatus::NoIndication),
-            _ => None,
+            0x04 => Ok(LineStatus::Free),
+            0x00 => Ok(LineStatus::NoIndication),
+            _ => Err(UnknownCode(code)),
         }
     }
 }
 
-impl Event {
-    pub fn code(self) -> u8
-        ensures { result ≡ event_code self }
-    {
-        match self {
-            Event::Alerting => 0x01,
-            Event::Progress => 0x02,
-        }
-    }
+impl From<Event> for u8 {
+    ghost from_gives = { λ event code. code ≡ event_code event };
 
-    pub fn from_code(code: u8) -> Option<Event>
-        ensures { result ≡ event_of code }
-    {
+    fn from(event: Event) -> u8 {
+        event as u8
+    }
+}
+
+impl TryFrom<u8> for Event {
+    type Error = UnknownCode;
+
+    ghost try_from_gives = { λ code r. r ≡ known code (event_of code) };
+
+    fn try_from(code: u8) -> Result<Event, UnknownCode> {
         match code {
-            0x01 => Some(Event::Alerting),
-            0x02 => Some(Event::Progress),
-            _ => None,
+            0x01 => Ok(Event::Alerting),
+            0x02 => Ok(Event::Progress),
+            _ => Err(UnknownCode(code)),
         }
     }
 }
 
-impl Way {
-    pub fn code(self) -> u8
-        ensures { result ≡ way_code self }
-    {
-        match self {
-            Way::Forward => 0,
-            Way::Back => 1,
+impl From<Way> for u8 {
+    ghost from_gives = { λ way code. code ≡ way_code way };
+
+    fn from(way: Way) -> u8 {
+        way as u8
+    }
+}
+
+impl TryFrom<u8> for Way {
+    type Error = UnknownCode;
+
+    ghost try_from_gives = { λ code r. r ≡ known code (way_of code) };
+
+    fn try_from(code: u8) -> Result<Way, UnknownCode> {
+        match code {
+            0 => Ok(Way::Forward),
+            1 => Ok(Way::Back),
+            _ => Err(UnknownCode(code)),
         }
     }
+}
 
-    pub fn from_code(code: u8) -> Option<Way>
-        ensures { result ≡ way_of code }
-    {
+impl From<MessageKind> for u8 {
+    ghost from_gives = { λ kind code. code ≡ kind_code kind };
+
+    fn from(kind: MessageKind) -> u8 {
+        kind as u8
+    }
+}
+
+impl TryFrom<u8> for MessageKind {
+    type Error = UnknownCode;
+
+    ghost try_from_gives = { λ code r. r ≡ known code (kind_of code) };
+
+    fn try_from(code: u8) -> Result<MessageKind, UnknownCode> {
         match code {
-            0 => Some(Way::Forward),
-            1 => Some(Way::Back),
-            _ => None,
+            0x01 => Ok(MessageKind::InitialAddress),
+            0x06 => Ok(MessageKind::AddressComplete),
+            0x2C => Ok(MessageKind::CallProgress),
+            0x09 => Ok(MessageKind::Answer),
+            0x07 => Ok(MessageKind::Connect),
+            0x0C => Ok(MessageKind::Release),
+            _ => Err(UnknownCode(code)),
         }
     }
 }

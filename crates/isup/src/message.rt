@@ -6,95 +6,89 @@ use numbers::number::{Number, Party};
 pub mod ranges;
 
 // What the call's connection must be fit for.
-#[derive(Clone, Copy, PartialEq, Eq)]
+#[derive(Clone, Copy, Debug, PartialEq, Eq)]
 pub enum Service {
-    Speech,
-    Digital64,
-    Audio,
+    Speech = 0x00,
+    Digital64 = 0x02,
+    Audio = 0x03,
 }
 
 // Why a call was diverted.
-#[derive(Clone, Copy, PartialEq, Eq)]
+#[derive(Clone, Copy, Debug, PartialEq, Eq)]
 pub enum Reason {
-    Unknown,
-    Busy,
-    NoReply,
-    Unconditional,
-    DeflectionAlerting,
-    DeflectionImmediate,
-    MobileUnreachable,
+    Unknown = 0,
+    Busy = 1,
+    NoReply = 2,
+    Unconditional = 3,
+    DeflectionAlerting = 4,
+    DeflectionImmediate = 5,
+    MobileUnreachable = 6,
 }
 
 // What a diverting party allows the caller to be told: nothing, the diversion with the new number, or the diversion alone.
-#[derive(Clone, Copy, PartialEq, Eq)]
+#[derive(Clone, Copy, Debug, PartialEq, Eq)]
 pub enum Notification {
-    Unknown,
-    NotAllowed,
-    WithNumber,
-    WithoutNumber,
+    Unknown = 0,
+    NotAllowed = 1,
+    WithNumber = 2,
+    WithoutNumber = 3,
 }
 
 // What an exchange further on may tell of the diversions so far.
-#[derive(Clone, Copy, PartialEq, Eq)]
+#[derive(Clone, Copy, Debug, PartialEq, Eq)]
 pub enum Indicator {
-    Diverted,
-    AllRestricted,
-    NumberRestricted,
+    Diverted = 3,
+    AllRestricted = 4,
+    NumberRestricted = 6,
 }
 
 // Whether the number that is reached may be shown to the caller.
-#[derive(Clone, Copy, PartialEq, Eq)]
+#[derive(Clone, Copy, Debug, PartialEq, Eq)]
 pub enum Restriction {
-    Allowed,
-    Restricted,
+    Allowed = 0x00,
+    Restricted = 0x01,
 }
 
 // What an address complete says of the called line.
-#[derive(Clone, Copy, PartialEq, Eq)]
+#[derive(Clone, Copy, Debug, PartialEq, Eq)]
 pub enum LineStatus {
-    Free,
-    NoIndication,
+    Free = 0x04,
+    NoIndication = 0x00,
 }
 
 // What a call progress reports.
-#[derive(Clone, Copy, PartialEq, Eq)]
+#[derive(Clone, Copy, Debug, PartialEq, Eq)]
 pub enum Event {
-    Alerting,
-    Progress,
+    Alerting = 0x01,
+    Progress = 0x02,
 }
 
 // The way of an envelope along a leg: away from the caller or towards it.
-#[derive(Clone, Copy, PartialEq, Eq)]
+#[derive(Clone, Copy, Debug, PartialEq, Eq)]
 pub enum Way {
-    Forward,
-    Back,
+    Forward = 0,
+    Back = 1,
+}
+
+// A number from LOW to HIGH.
+#[derive(Clone, Copy, Debug, PartialEq, Eq)]
+pub struct Ranged<const LOW: u8, const HIGH: u8> {
+    value: u8,
+    ghost low: { LOW ≤ value },
+    ghost high: { value ≤ HIGH },
 }
 
 // Why a call is released, 1 to 127.
-#[derive(Clone, Copy)]
-pub struct Cause {
-    value: u8,
-    ghost low: { 1 ≤ value },
-    ghost high: { value ≤ 127 },
-}
+pub type Cause = Ranged<1, 127>;
 
 // How often a call has been diverted, 1 to 5.
-#[derive(Clone, Copy)]
-pub struct Count {
-    value: u8,
-    ghost low: { 1 ≤ value },
-    ghost high: { value ≤ 5 },
-}
+pub type Count = Ranged<1, 5>;
 
 // An exchange, 0 to 7.
-#[derive(Clone, Copy)]
-pub struct Exchange {
-    value: u8,
-    ghost high: { value ≤ 7 },
-}
+pub type Exchange = Ranged<0, 7>;
 
 // The circuit of a message: its call, 0 to 63, and the call's leg, 0 to 5.
-#[derive(Clone, Copy)]
+#[derive(Clone, Copy, Debug, PartialEq, Eq)]
 pub struct Circuit {
     call: u8,
     leg: u8,
@@ -103,7 +97,7 @@ pub struct Circuit {
 }
 
 // What an initial address tells of the diversions so far.
-#[derive(Clone, Copy)]
+#[derive(Clone, Copy, Debug, PartialEq, Eq)]
 pub struct RedirectionInformation {
     pub indicator: Indicator,
     pub count: Count,
@@ -119,7 +113,7 @@ pub struct Redirection<N> {
 }
 
 // The call diversion information of a notice.
-#[derive(Clone, Copy)]
+#[derive(Clone, Copy, Debug, PartialEq, Eq)]
 pub struct DiversionInformation {
     pub notification: Notification,
     pub reason: Reason,
@@ -138,6 +132,17 @@ pub struct Backward<N> {
     pub may_divert: bool,
     pub notice: Option<Notice<N>>,
     pub restriction: Option<Restriction>,
+}
+
+// The type octet of a message.
+#[derive(Clone, Copy, Debug, PartialEq, Eq)]
+pub enum MessageKind {
+    InitialAddress = 0x01,
+    AddressComplete = 0x06,
+    CallProgress = 0x2C,
+    Answer = 0x09,
+    Connect = 0x07,
+    Release = 0x0C,
 }
 
 #[derive(Clone, Copy)]

@@ -1,58 +1,23 @@
 // Values of the types that have a range.
 ghost use Rattle.std.specs.Prelude.{◌≡◌, ◌≤◌};
-ghost use Rattle.isup.specs.Ranges.{cause_in, count_in, exchange_in, circuit_in, circuit_from, circuit_octets};
+ghost use Rattle.isup.specs.Ranges.{in_range, circuit_in, circuit_from, circuit_octets};
 
-use super::{Cause, Circuit, Count, Exchange};
+use super::{Circuit, Ranged};
 
-impl Cause {
-    pub fn new(value: u8) -> Option<Cause>
-        ensures { result ≡ cause_in value }
+impl<const LOW: u8, const HIGH: u8> Ranged<LOW, HIGH> {
+    // The number, if it is in the range.
+    pub fn new(value: u8) -> Option<Ranged<LOW, HIGH>>
+        ensures { result ≡ in_range LOW HIGH value }
     {
-        if value < 1 || value > 127 {
+        if value < LOW || value > HIGH {
             return None;
         }
-        Some(Cause { value })
+        Some(Ranged { value })
     }
 
     pub fn value(self) -> u8
-        ensures is { result ≡ self.value }
-        ensures bound { result ≤ 127 }
-    {
-        self.value
-    }
-}
-
-impl Count {
-    pub fn new(value: u8) -> Option<Count>
-        ensures { result ≡ count_in value }
-    {
-        if value < 1 || value > 5 {
-            return None;
-        }
-        Some(Count { value })
-    }
-
-    pub fn value(self) -> u8
-        ensures is { result ≡ self.value }
-        ensures bound { result ≤ 5 }
-    {
-        self.value
-    }
-}
-
-impl Exchange {
-    pub fn new(value: u8) -> Option<Exchange>
-        ensures { result ≡ exchange_in value }
-    {
-        if value > 7 {
-            return None;
-        }
-        Some(Exchange { value })
-    }
-
-    pub fn value(self) -> u8
-        ensures is { result ≡ self.value }
-        ensures bound { result ≤ 7 }
+        ensures is { result ≡ self.entry.value }
+        ensures bound { result ≤ HIGH }
     {
         self.value
     }
