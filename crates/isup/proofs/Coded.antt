@@ -1,5 +1,5 @@
 -- What is found under a code or a number is the value with it, and each value is found.
-use Rattle.std.proofs.Common.{◌≡◌, ℕ, List, [], ◌∷◌, Some, None, ap, ◌∙◌, sym, refl, arith}
+use Rattle.std.proofs.Common.{◌≡◌, ℕ, List, [], ◌∷◌, Some, ap, ◌∙◌, sym, refl, arith}
 use Rattle.std.proofs.Math.Decide.{dec_le}
 use Rattle.std.proofs.Math.Logic.{dite}
 use Rattle.std.proofs.lemmas.Option.{none-some}
@@ -114,7 +114,7 @@ pub number_of_ranged : (low high n : ℕ) (x : Ranged low high) → in_range low
 number_of_ranged low high n x e =
     dite (dec_le low n)
     (λ l. dite (dec_le n high) (λ h. ap (λ (y : Ranged low high). y.value) (some_same (ranged_made (record { value = n; low = l; high = h }) ∙ e)))
-        (λ not. absurd (none-some x (none_above low high n (omega arith) ∙ e))))
+    (λ not. absurd (none-some x (none_above low high n (omega arith) ∙ e))))
     (λ not. absurd (none-some x (none_below low high n (omega arith) ∙ e)))
 
 pub numbers_of_circuit : (c l : ℕ) (x : Circuit) → circuit_in c l ≡ Some x → (c ≡ x.call) × (l ≡ x.leg)

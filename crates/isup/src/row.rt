@@ -17,13 +17,9 @@ impl Row {
         ensures { result ≡ has self name }
     {
         match self {
-            Row::Initial => name == 0x0B || name == 0x28 || name == 0x13,
-            Row::Backward => name == 0x29
-                || name == 0x2C
-                || name == 0x36
-                || name == 0x0C
-                || name == 0x40,
-            Row::Connected => name == 0x40,
+            Row::Initial => matches!(name, 0x0B | 0x28 | 0x13),
+            Row::Backward => matches!(name, 0x29 | 0x2C | 0x36 | 0x0C | 0x40),
+            Row::Connected => matches!(name, 0x40),
             Row::Bare => false,
         }
     }

@@ -37,7 +37,7 @@ impl Circuit {
     pub fn from_octets(low: u8, high: u8) -> Option<Circuit>
         ensures { result ≡ circuit_from low high }
     {
-        let value = high as u16 * 256 + low as u16;
+        let value = u16::from_le_bytes([low, high]);
         if value > 511 {
             return None;
         }
@@ -48,8 +48,7 @@ impl Circuit {
     pub fn octets(self) -> [u8; 2]
         ensures { result ≡ circuit_octets self }
     {
-        let value = self.call as u16 * 8 + self.leg as u16;
-        [(value % 256) as u8, (value / 256) as u8]
+        (self.call as u16 * 8 + self.leg as u16).to_le_bytes()
     }
 
     pub fn call(self) -> u8
