@@ -107,7 +107,7 @@ pub found_circuit : (x : Circuit) → circuit_in x.call x.leg ≡ Some x
 found_circuit x = sym (circuit_made x)
 
 -- a value found under a number has that number
-some_same : {A : Type 0} {x y : A} → Some x ≡ Some y → x ≡ y
+pub some_same : {A : Type 0} {x y : A} → Some x ≡ Some y → x ≡ y
 some_same e = cc
 
 pub number_of_ranged : (low high n : ℕ) (x : Ranged low high) → in_range low high n ≡ Some x → n ≡ x.value

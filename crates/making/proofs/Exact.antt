@@ -1,11 +1,12 @@
 -- Parts make a message exactly where they are the parts of that message.
-use Rattle.std.proofs.Common.{◌≡◌, ℕ, Bool, true, false, cond, eqb, Some, None, Option, Result, sym, refl, ap, ◌∙◌, subst, arith}
-use Rattle.std.specs.Option.{option_map, ok_or}
+use Rattle.std.proofs.Common.{◌≡◌, ℕ, Bool, true, false, cond, eqb, Some, None, Option, Result, sym, refl, ap, ◌∙◌, subst}
+use Rattle.std.specs.Option.{option_map}
+use Rattle.making.specs.Refusing.{or_refused}
 use Rattle.std.proofs.lemmas.Bool.{eqb-true}
+use Rattle.std.proofs.lemmas.Option.{none-some}
 use Rattle.numbers.specs.declared.number.Number.{Number}
 use Rattle.numbers.specs.declared.number.Party.{Party}
 use Rattle.numbers.specs.declared.refusal.Refusal.{Refusal}
-use Rattle.numbers.specs.declared.refusal.Refusal.TheVariants.{OutOfRange}
 use Rattle.isup.specs.declared.message.Circuit.{Circuit}
 use Rattle.isup.specs.declared.message.Restriction.{Restriction}
 use Rattle.isup.specs.declared.message.RedirectionInformation.{RedirectionInformation}
@@ -17,7 +18,7 @@ use Rattle.isup.specs.declared.message.Message.{Message}
 use Rattle.isup.specs.declared.message.Message.TheVariants.{InitialAddress, AddressComplete, CallProgress, Answer, Connect, Release}
 use Rattle.isup.specs.Codes.{service_of, reason_of, notification_of, indicator_of, restriction_of, status_of, event_of, restriction_code}
 use Rattle.isup.specs.Ranges.{cause_in, count_in, circuit_in}
-use Rattle.isup.proofs.Coded.{code_of_service, code_of_reason, code_of_notification, code_of_indicator, code_of_restriction, code_of_status, code_of_event, found_service, found_reason, found_notification, found_indicator, found_restriction, found_status, found_event, found_cause, found_count, found_circuit, number_of_cause, number_of_count, numbers_of_circuit}
+use Rattle.isup.proofs.Coded.{some_same, code_of_service, code_of_reason, code_of_notification, code_of_indicator, code_of_restriction, code_of_status, code_of_event, found_service, found_reason, found_notification, found_indicator, found_restriction, found_status, found_event, found_ranged, found_circuit, number_of_ranged, numbers_of_circuit}
 use Rattle.making.specs.declared.parts.Mandatory.{Mandatory}
 use Rattle.making.specs.declared.parts.RawInformation.{RawInformation}
 use Rattle.making.specs.declared.parts.RawRedirection.{RawRedirection}
@@ -28,26 +29,20 @@ use Rattle.making.specs.declared.parts.Parts.{Parts}
 use Rattle.making.specs.Parts.{kind_of, mandatory_of, optional_of, raw_information, raw_diversion, raw_redirection, raw_notice, parts_of, Made}
 use Rattle.making.specs.Making.{takes, lacks, information_in, redirection_from, redirection_in, diversion_in, notice_from, notice_in, restriction_in, optional_in, backward_in, restriction_alone, initial_in, complete_in, progress_in, connected_in, release_in, message_in, made_from}
 
-none_some : {A : Type 0} {x : A} → None ≡ Some x → ⊥
-none_some e = let z : ◌≡◌ {A = ℕ} 0 1 = cc in omega arith
-
-some_same : {A : Type 0} {x y : A} → Some x ≡ Some y → x ≡ y
-some_same e = cc
-
 takes_some : {A B : Type 0} (o : Option A) (f : A → Option B) (y : B) → takes o f ≡ Some y → (x : A) × (o ≡ Some x) × (f x ≡ Some y)
 takes_some (Some x) f y e = (x, refl, e)
-takes_some None f y e = absurd (none_some e)
+takes_some None f y e = absurd (none-some _ e)
 
 takes_at : {A B : Type 0} {o : Option A} {x : A} (f : A → Option B) → o ≡ Some x → takes o f ≡ f x
 takes_at f e = ap (λ o. takes o f) e
 
 lacks_some : {A B : Type 0} (o : Option A) (r : Option B) (y : B) → lacks o r ≡ Some y → (o ≡ None) × (r ≡ Some y)
 lacks_some None r y e = (refl, e)
-lacks_some (Some x) r y e = absurd (none_some e)
+lacks_some (Some x) r y e = absurd (none-some _ e)
 
 unless_some : {B : Type 0} (b : Bool) (r : Option B) (y : B) → cond b None r ≡ Some y → (b ≡ false) × (r ≡ Some y)
 unless_some false r y e = (refl, e)
-unless_some true r y e = absurd (none_some e)
+unless_some true r y e = absurd (none-some _ e)
 
 information_sound : (i : RawInformation) (x : RedirectionInformation) → information_in i ≡ Some x → i ≡ raw_information x
 information_sound i x e =
@@ -55,21 +50,21 @@ information_sound i x e =
     let b = takes_some (count_in i.count) _ x a.2 in
     let d = takes_some (reason_of i.reason) _ x b.2 in
     let ia = code_of_indicator _ _ a.1 in
-    let ib = number_of_count _ _ b.1 in
+    let ib = number_of_ranged _ _ _ _ b.1 in
     let id = code_of_reason _ _ d.1 in
     (λ k. record { indicator = ia k; count = ib k; reason = id k }) ∙ ap raw_information (some_same d.2)
 
 information_again : (x : RedirectionInformation) → information_in (raw_information x) ≡ Some x
-information_again x = takes_at _ (found_indicator x.indicator) ∙ takes_at _ (found_count x.count) ∙ takes_at _ (found_reason x.reason)
+information_again x = takes_at _ (found_indicator x.indicator) ∙ takes_at _ (found_ranged x.count) ∙ takes_at _ (found_reason x.reason)
 
 redirection_sound :
     (a b : Option (Party Number)) (i : Option RawInformation) (r : Option (Redirection Number)) → redirection_from a b i ≡ Some r →
     ◌≡◌ {A = RawRedirection} (record { redirecting = a; original = b; information = i }) (raw_redirection r)
 redirection_sound None None None r e = ap raw_redirection (some_same e)
-redirection_sound None None (Some i) r e = absurd (none_some e)
-redirection_sound None (Some b) i r e = absurd (none_some e)
-redirection_sound (Some a) None i r e = absurd (none_some e)
-redirection_sound (Some a) (Some b) None r e = absurd (none_some e)
+redirection_sound None None (Some i) r e = absurd (none-some _ e)
+redirection_sound None (Some b) i r e = absurd (none-some _ e)
+redirection_sound (Some a) None i r e = absurd (none-some _ e)
+redirection_sound (Some a) (Some b) None r e = absurd (none-some _ e)
 redirection_sound (Some a) (Some b) (Some i) r e =
     let x = takes_some (information_in i) _ r e in
     let s = information_sound i x.0 x.1 in
@@ -94,10 +89,10 @@ notice_sound :
     (t : Bool) (d : Option RawDiversion) (n : Option Number) (r : Option (Notice Number)) → notice_from t d n ≡ Some r →
     ◌≡◌ {A = RawNotice} (record { announced = t; diversion = d; number = n }) (raw_notice r)
 notice_sound false None None r e = ap raw_notice (some_same e)
-notice_sound false None (Some n) r e = absurd (none_some e)
-notice_sound false (Some d) n r e = absurd (none_some e)
-notice_sound true None n r e = absurd (none_some e)
-notice_sound true (Some d) None r e = absurd (none_some e)
+notice_sound false None (Some n) r e = absurd (none-some _ e)
+notice_sound false (Some d) n r e = absurd (none-some _ e)
+notice_sound true None n r e = absurd (none-some _ e)
+notice_sound true (Some d) None r e = absurd (none-some _ e)
 notice_sound true (Some d) (Some n) r e =
     let x = takes_some (diversion_in d) _ r e in
     let s = diversion_sound d x.0 x.1 in
@@ -221,17 +216,22 @@ connected_sound n o r e =
     let u = lacks_some n.cause _ r v.1 in
     ((λ i. record { service = a.0 i; called = b.0 i; status = s.0 i; event = v.0 i; cause = u.0 i }), alone_sound o r u.1)
 
-answer_sound : (n : Mandatory) (o : Optional) (m : Message Number) → takes (connected_in n o) (λ r. Some (Answer r)) ≡ Some m → Row 0x09 n o m
-answer_sound n o m e =
+-- an answer or a connect
+told_sound :
+    (k : ℕ) (tell : Option Restriction → Message Number) →
+    ((r : Option Restriction) → Row k (mandatory_of (Answer r)) (optional_of (Answer r)) (tell r)) →
+    (n : Mandatory) (o : Optional) (m : Message Number) → takes (connected_in n o) (λ r. Some (tell r)) ≡ Some m → Row k n o m
+told_sound k tell row n o m e =
     let x = takes_some (connected_in n o) _ m e in
     let s = connected_sound n o x.0 x.1 in
-    subst (λ (y : Message Number). Row 0x09 n o y) (some_same x.2) (record { kinds = refl; mandatories = s.0; optionals = s.1 })
+    subst (λ (y : Message Number). Row k n o y) (some_same x.2) (subst (λ (w : Mandatory). Row k w o (tell x.0)) (sym s.0)
+    (subst (λ (v : Optional). Row k (mandatory_of (Answer x.0)) v (tell x.0)) (sym s.1) (row x.0)))
 
-connect_sound : (n : Mandatory) (o : Optional) (m : Message Number) → takes (connected_in n o) (λ r. Some (Connect r)) ≡ Some m → Row 0x07 n o m
-connect_sound n o m e =
-    let x = takes_some (connected_in n o) _ m e in
-    let s = connected_sound n o x.0 x.1 in
-    subst (λ (y : Message Number). Row 0x07 n o y) (some_same x.2) (record { kinds = refl; mandatories = s.0; optionals = s.1 })
+answer_row : (r : Option Restriction) → Row 0x09 (mandatory_of (Answer r)) (optional_of (Answer r)) (Answer r)
+answer_row r = record { kinds = refl; mandatories = refl; optionals = refl }
+
+connect_row : (r : Option Restriction) → Row 0x07 (mandatory_of (Answer r)) (optional_of (Answer r)) (Connect r)
+connect_row r = record { kinds = refl; mandatories = refl; optionals = refl }
 
 release_sound : (n : Mandatory) (o : Optional) (m : Message Number) → release_in n o ≡ Some m → Row 0x0C n o m
 release_sound n o m e =
@@ -243,7 +243,7 @@ release_sound n o m e =
     let r = takes_some (restriction_alone o) _ m u.2 in
     let w = lacks_some r.0 _ m r.2 in
     let x = takes_some (cause_in u.0) _ m w.1 in
-    let coded : n.cause ≡ Some _ = u.1 ∙ ap (λ (z : ℕ). Some z) (number_of_cause u.0 x.0 x.1) in
+    let coded : n.cause ≡ Some _ = u.1 ∙ ap (λ (z : ℕ). Some z) (number_of_ranged _ _ u.0 x.0 x.1) in
     subst (λ (y : Message Number). Row 0x0C n o y) (some_same x.2) (record {
       kinds = refl;
       mandatories = λ i. record { service = a.0 i; called = b.0 i; status = s.0 i; event = v.0 i; cause = coded i };
@@ -265,9 +265,9 @@ message_sound k n o m =
     branch k 0x01 n o m _ _ (initial_sound n o m)
     (branch k 0x06 n o m _ _ (complete_sound n o m)
     (branch k 0x2C n o m _ _ (progress_sound n o m)
-    (branch k 0x09 n o m _ _ (answer_sound n o m)
-    (branch k 0x07 n o m _ _ (connect_sound n o m)
-    (branch k 0x0C n o m _ _ (release_sound n o m) (λ e. absurd (none_some e)))))))
+    (branch k 0x09 n o m _ _ (told_sound 0x09 (λ r. Answer r) answer_row n o m)
+    (branch k 0x07 n o m _ _ (told_sound 0x07 (λ r. Connect r) connect_row n o m)
+    (branch k 0x0C n o m _ _ (release_sound n o m) (λ e. absurd (none-some _ e)))))))
 
 message_again : (m : Message Number) → message_in (kind_of m) (mandatory_of m) (optional_of m) ≡ Some m
 message_again (InitialAddress s c r) = takes_at _ (found_service s)
@@ -275,7 +275,7 @@ message_again (AddressComplete l b) = takes_at _ (found_status l)
 message_again (CallProgress e b) = takes_at _ (found_event e)
 message_again (Answer r) = refl
 message_again (Connect r) = refl
-message_again (Release c) = takes_at _ (found_cause c)
+message_again (Release c) = takes_at _ (found_ranged c)
 
 made_sound : (p : Parts) (r : Circuit × Message Number) → made_from p ≡ Some r → p ≡ parts_of r.0 r.1
 made_sound p r e =
@@ -306,10 +306,9 @@ made_again : (c : Circuit) (m : Message Number) → made_from (parts_of c m) ≡
 made_again c m = takes_at _ (found_circuit c) ∙ takes_at _ (optional_again c m) ∙ takes_at _ (message_again m)
 
 -- what making answers is what it should
-pub parts_make :
-    (p : Parts) (o : Option (Circuit × Message Number)) (r : Result (Circuit × Message Number) Refusal) → o ≡ made_from p → r ≡ ok_or o OutOfRange → Made p r
-parts_make p o r e f = subst (λ (x : Result (Circuit × Message Number) Refusal). Made p x) (sym f) (by_cases o e)
+pub parts_make : (p : Parts) (r : Result (Circuit × Message Number) Refusal) → r ≡ or_refused (made_from p) → Made p r
+parts_make p r e = subst (λ (x : Result (Circuit × Message Number) Refusal). Made p x) (sym e) (by_cases (made_from p) refl)
   where
-    by_cases : (o : Option (Circuit × Message Number)) → o ≡ made_from p → Made p (ok_or o OutOfRange)
+    by_cases : (o : Option (Circuit × Message Number)) → o ≡ made_from p → Made p (or_refused o)
     by_cases (Some r) e = made_sound p r (sym e)
-    by_cases None e = (refl, λ c m h. none_some (e ∙ ap made_from h ∙ made_again c m))
+    by_cases None e = (refl, λ c m h. none-some _ (e ∙ ap made_from h ∙ made_again c m))

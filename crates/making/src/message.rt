@@ -1,17 +1,20 @@
 // Making a message.
 ghost use Rattle.std.specs.Prelude.{◌≡◌};
-ghost use Rattle.making.specs.Making.{backward_in, restriction_alone, initial_in, complete_in, progress_in, connected_in, release_in, message_in, made_from};
+ghost use Rattle.making.specs.Making.{backward_in, restriction_alone, initial_in, complete_in, progress_in, connected_in, release_in, message_in};
 ghost use Rattle.making.specs.Parts.{Made};
+ghost use Rattle.making.specs.Refusing.{or_refused};
 
 use crate::groups::optional;
 use crate::parts::{Mandatory, Optional, Parts};
-use isup::message::{Backward, Cause, Circuit, Event, LineStatus, Message, Restriction, Service};
+use isup::message::{
+    Backward, Cause, Circuit, Event, LineStatus, Message, MessageKind, Restriction, Service,
+};
 use numbers::number::Number;
 use numbers::refusal::Refusal;
 
 // The optional parts of an address complete or a call progress, and no others.
-fn backward(optional: Optional) -> Option<Backward<Number>>
-    ensures { result ≡ backward_in optional }
+fn backward(optional: Optional) -> Result<Backward<Number>, Refusal>
+    ensures { result ≡ or_refused (backward_in optional) }
 {
     let Optional {
         redirection: None,
@@ -20,9 +23,9 @@ fn backward(optional: Optional) -> Option<Backward<Number>>
         restriction,
     } = optional
     else {
-        return None;
+        return Err(Refusal::OutOfRange);
     };
-    Some(Backward {
+    Ok(Backward {
         may_divert,
         notice,
         restriction,
@@ -30,8 +33,8 @@ fn backward(optional: Optional) -> Option<Backward<Number>>
 }
 
 // The restriction, if any, and no other optional part.
-fn restriction_alone(optional: Optional) -> Option<Option<Restriction>>
-    ensures { result ≡ restriction_alone optional }
+fn restriction_alone(optional: Optional) -> Result<Option<Restriction>, Refusal>
+    ensures { result ≡ or_refused (restriction_alone optional) }
 {
     let Optional {
         redirection: None,
@@ -40,13 +43,13 @@ fn restriction_alone(optional: Optional) -> Option<Option<Restriction>>
         restriction,
     } = optional
     else {
-        return None;
+        return Err(Refusal::OutOfRange);
     };
-    Some(restriction)
+    Ok(restriction)
 }
 
-fn initial_address(mandatory: Mandatory, optional: Optional) -> Option<Message>
-    ensures { result ≡ initial_in mandatory optional }
+fn initial_address(mandatory: Mandatory, optional: Optional) -> Result<Message, Refusal>
+    ensures { result ≡ or_refused (initial_in mandatory optional) }
 {
     let Mandatory {
         service: Some(service),
@@ -56,7 +59,7 @@ fn initial_address(mandatory: Mandatory, optional: Optional) -> Option<Message>
         cause: None,
     } = mandatory
     else {
-        return None;
+        return Err(Refusal::OutOfRange);
     };
     let Optional {
         redirection,
@@ -65,14 +68,14 @@ fn initial_address(mandatory: Mandatory, optional: Optional) -> Option<Message>
         restriction: None,
     } = optional
     else {
-        return None;
+        return Err(Refusal::OutOfRange);
     };
-    let service = Service::from_code(service)?;
-    Some(Message::InitialAddress(service, called, redirection))
+    let service = Service::try_from(service)?;
+    Ok(Message::InitialAddress(service, called, redirection))
 }
 
-fn address_complete(mandatory: Mandatory, optional: Optional) -> Option<Message>
-    ensures { result ≡ complete_in mandatory optional }
+fn address_complete(mandatory: Mandatory, optional: Optional) -> Result<Message, Refusal>
+    ensures { result ≡ or_refused (complete_in mandatory optional) }
 {
     let Mandatory {
         service: None,
@@ -82,15 +85,15 @@ fn address_complete(mandatory: Mandatory, optional: Optional) -> Option<Message>
         cause: None,
     } = mandatory
     else {
-        return None;
+        return Err(Refusal::OutOfRange);
     };
-    let status = LineStatus::from_code(status)?;
+    let status = LineStatus::try_from(status)?;
     let parts = backward(optional)?;
-    Some(Message::AddressComplete(status, parts))
+    Ok(Message::AddressComplete(status, parts))
 }
 
-fn call_progress(mandatory: Mandatory, optional: Optional) -> Option<Message>
-    ensures { result ≡ progress_in mandatory optional }
+fn call_progress(mandatory: Mandatory, optional: Optional) -> Result<Message, Refusal>
+    ensures { result ≡ or_refused (progress_in mandatory optional) }
 {
     let Mandatory {
         service: None,
@@ -100,16 +103,16 @@ fn call_progress(mandatory: Mandatory, optional: Optional) -> Option<Message>
         cause: None,
     } = mandatory
     else {
-        return None;
+        return Err(Refusal::OutOfRange);
     };
-    let event = Event::from_code(event)?;
+    let event = Event::try_from(event)?;
     let parts = backward(optional)?;
-    Some(Message::CallProgress(event, parts))
+    Ok(Message::CallProgress(event, parts))
 }
 
 // What an answer or a connect carries: no mandatory part, and the restriction, if any.
-fn connected(mandatory: Mandatory, optional: Optional) -> Option<Option<Restriction>>
-    ensures { result ≡ connected_in mandatory optional }
+fn connected(mandatory: Mandatory, optional: Optional) -> Result<Option<Restriction>, Refusal>
+    ensures { result ≡ or_refused (connected_in mandatory optional) }
 {
     let Mandatory {
         service: None,
@@ -119,13 +122,13 @@ fn connected(mandatory: Mandatory, optional: Optional) -> Option<Option<Restrict
         cause: None,
     } = mandatory
     else {
-        return None;
+        return Err(Refusal::OutOfRange);
     };
     restriction_alone(optional)
 }
 
-fn release(mandatory: Mandatory, optional: Optional) -> Option<Message>
-    ensures { result ≡ release_in mandatory optional }
+fn release(mandatory: Mandatory, optional: Optional) -> Result<Message, Refusal>
+    ensures { result ≡ or_refused (release_in mandatory optional) }
 {
     let Mandatory {
         service: None,
@@ -135,43 +138,27 @@ fn release(mandatory: Mandatory, optional: Optional) -> Option<Message>
         cause: Some(cause),
     } = mandatory
     else {
-        return None;
+        return Err(Refusal::OutOfRange);
     };
     let None = restriction_alone(optional)? else {
-        return None;
+        return Err(Refusal::OutOfRange);
     };
-    let cause = Cause::new(cause)?;
-    Some(Message::Release(cause))
+    let cause = Cause::new(cause).ok_or(Refusal::OutOfRange)?;
+    Ok(Message::Release(cause))
 }
 
 // The message of a type octet.
-fn message(kind: u8, mandatory: Mandatory, optional: Optional) -> Option<Message>
-    ensures { result ≡ message_in kind mandatory optional }
+fn message(kind: u8, mandatory: Mandatory, optional: Optional) -> Result<Message, Refusal>
+    ensures { result ≡ or_refused (message_in kind mandatory optional) }
 {
-    match kind {
-        0x01 => initial_address(mandatory, optional),
-        0x06 => address_complete(mandatory, optional),
-        0x2C => call_progress(mandatory, optional),
-        0x09 => {
-            let restriction = connected(mandatory, optional)?;
-            Some(Message::Answer(restriction))
-        }
-        0x07 => {
-            let restriction = connected(mandatory, optional)?;
-            Some(Message::Connect(restriction))
-        }
-        0x0C => release(mandatory, optional),
-        _ => None,
+    match MessageKind::try_from(kind)? {
+        MessageKind::InitialAddress => initial_address(mandatory, optional),
+        MessageKind::AddressComplete => address_complete(mandatory, optional),
+        MessageKind::CallProgress => call_progress(mandatory, optional),
+        MessageKind::Answer => Ok(Message::Answer(connected(mandatory, optional)?)),
+        MessageKind::Connect => Ok(Message::Connect(connected(mandatory, optional)?)),
+        MessageKind::Release => release(mandatory, optional),
     }
-}
-
-fn made(parts: &Parts) -> Option<(Circuit, Message)>
-    ensures { result ≡ made_from parts.now }
-{
-    let circuit = Circuit::new(parts.call, parts.leg)?;
-    let optional = optional(parts)?;
-    let message = message(parts.kind, parts.mandatory, optional)?;
-    Some((circuit, message))
 }
 
 // The message whose parts these are, on its circuit, or a refusal where they are the parts of none: one is out of range,
@@ -179,5 +166,8 @@ fn made(parts: &Parts) -> Option<(Circuit, Message)>
 pub fn make_message(parts: &Parts) -> Result<(Circuit, Message), Refusal>
     ensures { Made parts.now result }
 {
-    made(parts).ok_or(Refusal::OutOfRange)
+    let circuit = Circuit::new(parts.call, parts.leg).ok_or(Refusal::OutOfRange)?;
+    let optional = optional(parts)?;
+    let message = message(parts.kind, parts.mandatory, optional)?;
+    Ok((circuit, message))
 }

@@ -6,10 +6,7 @@ use numbers::number::{Number, Party};
 use std::test::Fail;
 
 fn any_number() -> Result<Number, Fail> {
-    match Number::from_digits(&[4, 0, 1, 2]) {
-        Ok(number) => Ok(number),
-        Err(_) => Err(Fail::new("4012 is a number")),
-    }
+    Number::from_digits(&[4, 0, 1, 2]).map_err(|_| Fail::new("4012 is a number"))
 }
 
 // A type octet and no parts.
@@ -51,32 +48,24 @@ fn redirection(
         restricted: true,
     };
     RawRedirection {
-        redirecting: if redirecting { Some(party) } else { None },
-        original: if original { Some(party) } else { None },
-        information: if information {
-            Some(RawInformation {
-                indicator: 6,
-                count: 5,
-                reason: 6,
-            })
-        } else {
-            None
-        },
+        redirecting: redirecting.then_some(party),
+        original: original.then_some(party),
+        information: information.then_some(RawInformation {
+            indicator: 6,
+            count: 5,
+            reason: 6,
+        }),
     }
 }
 
 fn notice(announced: bool, diversion: bool, told: bool, number: Number) -> RawNotice {
     RawNotice {
         announced,
-        diversion: if diversion {
-            Some(RawDiversion {
-                notification: 3,
-                reason: 6,
-            })
-        } else {
-            None
-        },
-        number: if told { Some(number) } else { None },
+        diversion: diversion.then_some(RawDiversion {
+            notification: 3,
+            reason: 6,
+        }),
+        number: told.then_some(number),
     }
 }
 
