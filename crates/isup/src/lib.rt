@@ -2,5 +2,6 @@
 #![tactic(auto)]
 
 pub mod codes;
+pub mod groups;
 pub mod message;
 pub mod row;

@@ -4,6 +4,7 @@ ghost use Rattle.making.specs.Refusing.{or_refused};
 ghost use Rattle.making.specs.Making.{information_in, redirection_in, diversion_in, notice_in, restriction_in, optional_in};
 
 use crate::parts::{Optional, Parts, RawDiversion, RawInformation, RawNotice, RawRedirection};
+use isup::groups::all_or_none;
 use isup::message::{
     Count, DiversionInformation, Indicator, Notice, Notification, Reason, Redirection,
     RedirectionInformation, Restriction,
@@ -24,30 +25,19 @@ fn information(raw: RawInformation) -> Result<RedirectionInformation, Refusal>
     })
 }
 
-// All three or none.
 fn redirection(raw: RawRedirection) -> Result<Option<Redirection<Number>>, Refusal>
     ensures { result ≡ or_refused (redirection_in raw) }
 {
-    match raw {
-        RawRedirection {
-            redirecting: None,
-            original: None,
-            information: None,
-        } => Ok(None),
-        RawRedirection {
-            redirecting: Some(redirecting),
-            original: Some(original),
-            information: Some(raw),
-        } => {
-            let information = information(raw)?;
-            Ok(Some(Redirection {
-                redirecting,
-                original,
-                information,
-            }))
-        }
-        _ => Err(Refusal::OutOfRange),
-    }
+    let group = all_or_none(raw.redirecting, raw.original, raw.information)?;
+    let Some((redirecting, original, raw)) = group else {
+        return Ok(None);
+    };
+    let information = information(raw)?;
+    Ok(Some(Redirection {
+        redirecting,
+        original,
+        information,
+    }))
 }
 
 fn diversion(raw: RawDiversion) -> Result<DiversionInformation, Refusal>
@@ -61,29 +51,19 @@ fn diversion(raw: RawDiversion) -> Result<DiversionInformation, Refusal>
     })
 }
 
-// All three or none.
 fn notice(raw: RawNotice) -> Result<Option<Notice<Number>>, Refusal>
     ensures { result ≡ or_refused (notice_in raw) }
 {
-    match raw {
-        RawNotice {
-            announced: false,
-            diversion: None,
-            number: None,
-        } => Ok(None),
-        RawNotice {
-            announced: true,
-            diversion: Some(raw),
-            number: Some(number),
-        } => {
-            let information = diversion(raw)?;
-            Ok(Some(Notice {
-                information,
-                number,
-            }))
-        }
-        _ => Err(Refusal::OutOfRange),
-    }
+    let announced = raw.announced.then_some(());
+    let group = all_or_none(announced, raw.diversion, raw.number)?;
+    let Some((_, raw, number)) = group else {
+        return Ok(None);
+    };
+    let information = diversion(raw)?;
+    Ok(Some(Notice {
+        information,
+        number,
+    }))
 }
 
 fn restriction(raw: Option<u8>) -> Result<Option<Restriction>, Refusal>
