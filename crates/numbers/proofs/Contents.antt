@@ -1,14 +1,14 @@
 -- The content of a number is read as that number, and nothing else is read.
-use Rattle.std.proofs.Common.{◌≡◌, ℕ, zero, suc, ◌+◌, ◌-◌, ◌*◌, ◌/◌, ◌%◌, ◌≤◌, Bool, true, false, cond, ◌&&◌, eqb, ltb, leb, ◌⊎◌, List, [], ◌∷◌, length, get_or, take, drop, Ok, Err, Result, sym, refl, ap, ◌∙◌, subst, inl, inr, arith}
-use Rattle.std.proofs.lemmas.List.{length-take-le, length-drop, length-take, get_or_past, get_or-take}
+use Rattle.std.proofs.Common.{◌≡◌, ℕ, zero, suc, ◌+◌, ◌-◌, ◌*◌, ◌/◌, ◌%◌, ◌≤◌, Bool, true, false, cond, ◌&&◌, eqb, ltb, leb, List, [], ◌∷◌, length, get_or, take, drop, Ok, Err, Result, sym, refl, ap, ◌∙◌, subst, inl, inr, arith}
+use Rattle.std.proofs.lemmas.List.{length-take-le, length-drop}
 use Rattle.std.proofs.lemmas.Bool.Decides.{nat_tests, eqb_tells, leb_tells}
-use Rattle.std.proofs.lemmas.Bool.{and_parts, leb-true, cond-true, cond-false, eq-eqb, eqb-true, ltb-false, cases_lt}
+use Rattle.std.proofs.lemmas.Bool.{and_parts, cond-true, cond-false, eq-eqb, eqb-true, ltb-false}
 use Rattle.numbers.specs.declared.number.Number.{Number}
 use Rattle.numbers.specs.declared.number.Party.{Party}
 use Rattle.numbers.specs.declared.number.NumberFault.TheVariants.{Count, Digit, Filler, NatureOrPlan}
 use Rattle.numbers.specs.Digits.{digits_of, number_of, pack, content, nature_of, plan_of}
 use Rattle.numbers.specs.Reading.{unpack, all_digits, count_in, read_digits, read_number, NumberCoded, OneNumberToACoding}
-use Rattle.numbers.proofs.Halves.{length-unpack, below}
+use Rattle.numbers.proofs.Halves.{length-unpack, digits_each, each_digits}
 use Rattle.numbers.proofs.Same.{digits_again, number_again, lawful_digits}
 
 -- a chain of tests that came out as Ok passed each
@@ -19,15 +19,6 @@ passed false x f r e = let z : ◌≡◌ {A = ℕ} 0 1 = cc in absurd (omega ari
 pub passed_not : {A E : Type 0} (b : Bool) (x : A) (f : E) (r : Result A E) → cond b (Err f) r ≡ Ok x → (b ≡ false) × (r ≡ Ok x)
 passed_not false x f r e = (refl, e)
 passed_not true x f r e = let z : ◌≡◌ {A = ℕ} 0 1 = cc in absurd (omega arith)
-
-digits_each : (ds : List ℕ) → all_digits ds ≡ true → (k : ℕ) → get_or ds k 0 ≤ 9
-digits_each [] e k = omega arith
-digits_each (d ∷ ds) e zero = leb-true d 9 (and_parts (leb d 9) (all_digits ds) e).0
-digits_each (d ∷ ds) e (suc k) = digits_each ds (and_parts (leb d 9) (all_digits ds) e).1 k
-
-each_digits : (ds : List ℕ) → ((k : ℕ) → get_or ds k 0 ≤ 9) → all_digits ds ≡ true
-each_digits [] f = refl
-each_digits (d ∷ ds) f = ap (λ b. b && all_digits ds) (below d (f 0)) ∙ each_digits ds (λ k. f (suc k))
 
 -- the digits of whole octets, with or without a filler, are packed into them again
 pack_again :
@@ -62,35 +53,6 @@ filler_again : (ds : List ℕ) → ((k : ℕ) → get_or ds k 0 ≤ 9) → get_o
 filler_again [] f = refl
 filler_again (d ∷ []) f = let h = f 0 in let q : d / 16 ≡ 0 = omega arith in q
 filler_again (d ∷ e ∷ ds) f = filler_again ds (λ k. f (suc (suc k)))
-
--- octet k of the digits, also behind their end
-pub pack_at : (ds : List ℕ) (k : ℕ) → get_or (pack ds) k 0 ≡ get_or ds (2 * k + 1) 0 * 16 + get_or ds (2 * k) 0
-pack_at [] k = omega arith
-pack_at (d ∷ []) zero = omega arith
-pack_at (d ∷ []) (suc k) =
-    let e : 2 * suc k + 1 ≡ suc (suc (2 * k + 1)) = omega arith in
-    let f : 2 * suc k ≡ suc (suc (2 * k)) = omega arith in
-    rw (e, f) (omega arith)
-pack_at (d ∷ e ∷ ds) zero = refl
-pack_at (d ∷ e ∷ ds) (suc k) =
-    let p : 2 * suc k + 1 ≡ suc (suc (2 * k + 1)) = omega arith in
-    let q : 2 * suc k ≡ suc (suc (2 * k)) = omega arith in
-    rw (p, q) (pack_at ds k)
-
--- the places behind a number's digits hold 0, so its digits may be read there too
-digit_is : (n : Number) (k : ℕ) → get_or (digits_of n) k 0 ≡ get_or n.digits k 0
-digit_is n k =
-    elim (cases_lt k n.count) [
-      | inl h ↦ get_or-take n.count n.digits k 0 h
-      | inr h ↦ get_or_past (digits_of n) k 0 (let l = length-take n.count n.digits in omega arith) ∙ sym (n.rest k h)
-    ]
-
-pub octet_is : (n : Number) (k low high : ℕ) → low ≡ get_or n.digits (2 * k) 0 → high ≡ get_or n.digits (2 * k + 1) 0 → high * 16 + low ≡ get_or (pack (digits_of n)) k 0
-octet_is n k low high e f =
-    let p = pack_at (digits_of n) k in
-    let a = digit_is n (2 * k) in
-    let b = digit_is n (2 * k + 1) in
-    omega arith
 
 -- what digits that are read hold
 record Held (r : Bool) (n : ℕ) (os : List ℕ) (p : Party Number) (used : ℕ) : Type 0 where
@@ -204,19 +166,3 @@ content_short p =
     let l = length-pack (digits_of p.number) in
     let d = lawful_digits p.number in
     omega (arith, d.many)
-
--- where count, nature and plan are as they should be, the digits decide
-pub reads_on :
-    (may r : Bool) (xs ds : List ℕ) (odd : ℕ) → (r ≡ true → may ≡ true) → 2 ≤ length xs → ds ≡ drop 2 xs → odd ≡ cond (leb 128 (get_or xs 0 0)) 1 0 →
-    2 ≤ length ds → 2 * length ds - odd ≤ 15 → ((get_or xs 0 0 ≡ 0x03 → ⊥) × (get_or xs 0 0 ≡ 0x83)) ⊎ (get_or xs 0 0 ≡ 0x03) → get_or xs 1 0 ≡ plan_of r →
-    read_digits r (2 * length ds - odd) ds ≡ read_number may xs
-reads_on may r xs ds odd m h e o u v w p =
-    let ld : length ds ≡ length xs - 2 = ap length e ∙ length-drop 2 xs in
-    let k : 2 * length ds - odd ≡ count_in xs = ap (λ (j : ℕ). 2 * length ds - j) o ∙ ap (λ (j : ℕ). 2 * j - cond (leb 128 (get_or xs 0 0)) 1 0) ld in
-    let lo : odd ≤ 1 = grind (arith, nat_tests) in
-    let n : get_or xs 0 0 ≡ cond (leb 128 (get_or xs 0 0)) 0x83 0x03 = elim w [ inl a ↦ nature (get_or xs 0 0) (inl a.1) | inr b ↦ nature (get_or xs 0 0) (inr b) ] in
-    ap (λ (j : ℕ). read_digits r j ds) k ∙ ap (read_digits r (count_in xs)) e ∙ sym (goes_on may r xs m h (omega arith) (omega arith) n p)
-  where
-    nature : (x : ℕ) → (x ≡ 0x83) ⊎ (x ≡ 0x03) → x ≡ cond (leb 128 x) 0x83 0x03
-    nature x (inl a) = grind (arith, nat_tests)
-    nature x (inr b) = grind (arith, nat_tests)

@@ -1,5 +1,5 @@
--- Lists that are cut at the end of a draft, and memory that a list is copied into.
-use Rattle.std.proofs.Common.{◌≡◌, ℕ, zero, suc, ◌+◌, ◌<◌, ◌≤◌, List, [], ◌∷◌, ◌++◌, length, get_or, take, drop, set, sym, refl, ap, ◌∙◌, add-one, arith}
+-- Lists that are cut at the end of a draft.
+use Rattle.std.proofs.Common.{◌≡◌, ℕ, zero, suc, ◌+◌, ◌<◌, ◌≤◌, List, [], ◌∷◌, ◌++◌, length, get_or, take, sym, refl, ap, ◌∙◌, arith}
 use Rattle.std.proofs.lemmas.List.{append_assoc, append-nil, take_all, take_at, take_more, length-take-le}
 use Rattle.numbers.specs.declared.draft.Draft.{Draft}
 use Rattle.numbers.specs.Drafts.{drafted, cut}
@@ -35,15 +35,3 @@ pub cut_next :
     (a b c xs : List ℕ) (k v : ℕ) → k < length xs → v ≡ get_or xs k 0 → b ≡ cut (a ++ take k xs) → c ≡ cut (b ++ v ∷ []) → c ≡ cut (a ++ take (k + 1) xs)
 cut_next a b c xs k v h e p q =
     cut_more a b c (take k xs) (v ∷ []) p q ∙ ap (λ (l : List ℕ). cut (a ++ l)) (ap (λ (w : ℕ). take k xs ++ (w ∷ [])) e ∙ sym (take_more xs k 0 h))
-
-set_next :
-    (k v : ℕ) (xs ys : List ℕ) → k < length xs → k < length ys → v ≡ get_or xs k 0 → set (take k xs ++ drop k ys) k v ≡ take (suc k) xs ++ drop (suc k) ys
-set_next k v [] ys h g e = absurd (omega arith)
-set_next k v (x ∷ xs) [] h g e = absurd (omega arith)
-set_next zero v (x ∷ xs) (y ∷ ys) h g e = ap (λ (w : ℕ). w ∷ ys) e
-set_next (suc k) v (x ∷ xs) (y ∷ ys) h g e = ap (λ (l : List ℕ). x ∷ l) (set_next k v xs ys (omega arith) (omega arith) e)
-
--- one more octet of a list copied over the front of memory
-pub copied_next :
-    (k v : ℕ) (xs ys zs : List ℕ) → k < length xs → k < length ys → v ≡ get_or xs k 0 → zs ≡ take k xs ++ drop k ys → set zs k v ≡ take (k + 1) xs ++ drop (k + 1) ys
-copied_next k v xs ys zs h g e p = ap (λ (l : List ℕ). set l k v) p ∙ rw add-one (set_next k v xs ys h g e)

@@ -1,6 +1,6 @@
 pub mod Cuts
 pub mod Halves
-pub mod Gathers
+pub mod Pairs
 pub mod Same
 pub mod Contents
 pub mod Compares

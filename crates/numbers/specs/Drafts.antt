@@ -12,6 +12,10 @@ drafted d = take d.len d.octets
 abbrev pub cut : List ℕ → List ℕ
 cut xs = take 64 xs
 
+-- a draft holds what it held and then these octets, as far as there is room
+abbrev pub Adds : Draft → Draft → List ℕ → Type 0
+Adds old new xs = drafted new ≡ cut (drafted old ++ xs)
+
 -- xs are written at the front of the memory and counted, and what lies behind stays; memory that is too short stays whole
 abbrev pub Written : List ℕ → List ℕ → List ℕ → Result ℕ Refusal → Type 0
 Written xs old new (Ok n) = (n ≡ length xs) × (new ≡ xs ++ drop n old)

@@ -1,6 +1,5 @@
 pub mod Refusals
 pub mod Digits
-pub mod Gathering
 pub mod Reading
 pub mod Drafts
 pub mod Comparing

@@ -1,37 +1,37 @@
-// What a call is refused with.
+// What a call is refused with, and the number by which callers know it.
 ghost use Rattle.std.specs.Prelude.{◌≡◌};
 ghost use Rattle.numbers.specs.Refusals.{refusal_number};
 
-#[derive(Clone, Copy, PartialEq, Eq)]
+#[derive(Clone, Copy, Debug, PartialEq, Eq)]
 pub enum Refusal {
     // The memory handed in is too short for what is to be written.
-    TooShort,
+    TooShort = 9,
     // A part is outside its range, does not belong there, or lacks its companions.
-    OutOfRange,
+    OutOfRange = 10,
     // Too few cells of the option store are free.
-    NoFreeCell,
+    NoFreeCell = 11,
     // None of the cells that are to be emptied is held.
-    NotHeld,
+    NotHeld = 12,
     // Something waits on the carrier that a network is to be set up with.
-    NotEmpty,
+    NotEmpty = 13,
     // As many wait on the carrier as it has room for.
-    Full,
+    Full = 15,
     // The number has no route.
-    NoRoute,
+    NoRoute = 16,
     // The call is in use.
-    CallInUse,
+    CallInUse = 17,
     // Nothing waits from the one exchange to the other.
-    NothingWaits,
+    NothingWaits = 18,
     // The leg or call is not there, or is in another state.
-    OtherState,
+    OtherState = 19,
     // The number holds no record by which it may deflect.
-    NoDeflection,
+    NoDeflection = 20,
     // The call has been diverted as often as the limit allows.
-    LimitReached,
+    LimitReached = 21,
     // The caller is up.
-    CallerUp,
+    CallerUp = 22,
     // Messages of the call wait.
-    MessagesWait,
+    MessagesWait = 23,
 }
 
 impl Refusal {
@@ -39,21 +39,6 @@ impl Refusal {
     pub fn number(self) -> u8
         ensures { result ≡ refusal_number self }
     {
-        match self {
-            Refusal::TooShort => 9,
-            Refusal::OutOfRange => 10,
-            Refusal::NoFreeCell => 11,
-            Refusal::NotHeld => 12,
-            Refusal::NotEmpty => 13,
-            Refusal::Full => 15,
-            Refusal::NoRoute => 16,
-            Refusal::CallInUse => 17,
-            Refusal::NothingWaits => 18,
-            Refusal::OtherState => 19,
-            Refusal::NoDeflection => 20,
-            Refusal::LimitReached => 21,
-            Refusal::CallerUp => 22,
-            Refusal::MessagesWait => 23,
-        }
+        self as u8
     }
 }

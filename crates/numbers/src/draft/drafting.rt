@@ -1,6 +1,6 @@
 // Adding to a draft, and writing it out.
-ghost use Rattle.std.specs.Prelude.{◌≡◌, [], ◌∷◌, ◌++◌};
-ghost use Rattle.numbers.specs.Drafts.{drafted, cut, Written};
+ghost use Rattle.std.specs.Prelude.{◌≡◌, [], ◌∷◌};
+ghost use Rattle.numbers.specs.Drafts.{drafted, Adds, Written};
 
 use super::Draft;
 use crate::refusal::Refusal;
@@ -17,7 +17,7 @@ impl Draft {
 
     // One octet more.
     pub fn push(&mut self, octet: u8)
-        ensures { drafted self.new ≡ cut (drafted self.old ++ octet ∷ []) }
+        ensures { Adds self.old self.new (octet ∷ []) }
     {
         let at = self.len;
         if at < 64 {
@@ -28,7 +28,7 @@ impl Draft {
 
     // Some octets more.
     pub fn push_all(&mut self, octets: &[u8])
-        ensures { drafted self.new ≡ cut (drafted self.old ++ octets.now) }
+        ensures { Adds self.old self.new octets.now }
     {
         for octet in octets {
             self.push(*octet);
@@ -43,9 +43,7 @@ impl Draft {
         if memory.len() < len {
             return Err(Refusal::TooShort);
         }
-        for k in 0..len {
-            memory[k] = self.octets[k];
-        }
+        memory[..len].copy_from_slice(&self.octets[..len]);
         Ok(len)
     }
 }

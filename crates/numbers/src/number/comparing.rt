@@ -5,7 +5,7 @@ ghost use Rattle.numbers.specs.Comparing.{Compared, same_number};
 
 use super::Number;
 
-// True exactly where the two are the same number.
+// True exactly where the two are the same number, which a derive would not state.
 impl PartialEq for Number {
     ghost eq = { same_number };
 
@@ -16,4 +16,8 @@ impl PartialEq for Number {
     {
         self.digits() == other.digits()
     }
+}
+
+impl Eq for Number {
+    ghost laws = { Prim.search (comparing, rules) };
 }

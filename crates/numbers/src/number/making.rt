@@ -1,48 +1,26 @@
 // Making a number from its digits.
-ghost use Rattle.std.specs.Prelude.{◌≡◌, ◌<◌, ◌≤◌, [], ◌∷◌, ◌++◌, length, MatchOption, MatchResult};
+ghost use Rattle.std.specs.Prelude.{◌≡◌, MatchResult};
 ghost use Rattle.numbers.specs.declared.refusal.Refusal.TheVariants.{OutOfRange};
 ghost use Rattle.numbers.specs.Digits.{digits_of, Lawful};
-ghost use Rattle.numbers.specs.Gathering.{gathered, Added};
 ghost use Rattle.numbers.specs.Reading.{EqualDigitsEqualNumbers};
 
-use super::{Digits, Number};
+use super::Number;
 use crate::refusal::Refusal;
 
-impl Digits {
-    pub(crate) fn new() -> Digits
-        ensures { gathered result ≡ [] }
-    {
-        Digits {
-            digits: [0; 15],
-            count: 0,
-        }
-    }
+impl TryFrom<&[u8]> for Number {
+    type Error = Refusal;
 
-    // One digit more; none where it is no digit or there are 15 already.
-    pub(crate) fn add(&mut self, digit: u8) -> Option<()>
-        ensures { Added self.old self.new digit result }
-    {
-        let at = self.count;
-        if digit > 9 || at >= 15 {
-            return None;
-        }
-        self.digits[at] = digit;
-        self.count = at + 1;
-        Some(())
-    }
+    ghost try_from_gives = { λ digits r. MatchResult r (λ n. digits_of n ≡ digits.now) (λ e. (e ≡ OutOfRange) × (Lawful digits.now → ⊥)) };
 
-    // The number, where there are enough digits.
-    pub(crate) fn number(self) -> Option<Number>
-        ensures { MatchOption result (length (gathered self) < 3) (λ n. digits_of n ≡ gathered self) }
-    {
-        if self.count < 3 {
-            return None;
+    // The number with exactly these digits, or a refusal where they are not 3 to 15 digits from 0 to 9.
+    fn try_from(digits: &[u8]) -> Result<Number, Refusal> {
+        let count = digits.len();
+        if count < 3 || count > 15 || digits.iter().any(|digit| *digit > 9) {
+            return Err(Refusal::OutOfRange);
         }
-        let digits = self.digits;
-        Some(Number {
-            digits,
-            count: self.count,
-        })
+        let mut all = [0; 15];
+        all[..count].copy_from_slice(digits);
+        Ok(Number { digits: all, count })
     }
 }
 
@@ -51,29 +29,18 @@ impl Number {
     pub fn from_digits(digits: &[u8]) -> Result<Number, Refusal>
         ensures { MatchResult result (λ n. digits_of n ≡ digits.now) (λ e. (e ≡ OutOfRange) × (Lawful digits.now → ⊥)) }
     {
-        let mut all = Digits::new();
-        for digit in digits {
-            let Some(()) = all.add(*digit) else {
-                return Err(Refusal::OutOfRange);
-            };
-        }
-        match all.number() {
-            Some(number) => Ok(number),
-            None => Err(Refusal::OutOfRange),
-        }
+        Number::try_from(digits)
     }
 
     // The digits, first to last.
     pub fn digits(&self) -> &[u8]
         ensures { result.now ≡ digits_of self.now }
     {
-        &self.digits[0..self.count]
+        &self.digits[..self.count]
     }
 }
 
 // Two numbers with the same digits are the same value.
-pub fn equal_digits_are_equal_numbers() -> u8
+pub fn equal_digits_are_equal_numbers()
     ensures { EqualDigitsEqualNumbers }
-{
-    0
-}
+{}

@@ -1,45 +1,30 @@
 // Reading the content octets of a number.
-ghost use Rattle.std.specs.Prelude.{◌≡◌, ◌+◌, ◌*◌, ◌/◌, ◌<◌, ◌≤◌, true, false, length, take, MatchOption, slice_index};
-ghost use Rattle.numbers.specs.Digits.{number_of};
-ghost use Rattle.numbers.specs.Reading.{number_fault_number, unpack, all_digits, read_digits, read_number, NumbersAreReadAsCoded, OneNumberToACoding};
+ghost use Rattle.std.specs.Prelude.{◌≡◌, ℕ, ◌+◌, ◌*◌, ◌≤◌, length, slice_index};
+ghost use Rattle.numbers.specs.Reading.{number_fault_number, unpack, read_digits, read_number, NumbersAreReadAsCoded, OneNumberToACoding};
 
-use super::{Digits, Number, NumberFault, Party};
+use super::{Number, NumberFault, Party};
 
 impl NumberFault {
     // The number by which callers know the fault.
     pub fn number(self) -> u8
         ensures { result ≡ number_fault_number self }
     {
-        match self {
-            NumberFault::Count => 1,
-            NumberFault::Digit => 2,
-            NumberFault::Filler => 3,
-            NumberFault::NatureOrPlan => 4,
-        }
+        self as u8
     }
 }
 
-// The half octet at a place: the earlier of the two stands in the low half.
-fn digit_at(octets: &[u8], k: usize) -> u8
-    requires { k / 2 < length octets.now }
-    ensures { result ≡ slice_index (unpack octets.now) k }
+// The halves of at most 8 octets, with zeros behind them: the earlier of two stands in the low half.
+fn halves(octets: &[u8]) -> [u8; 16]
+    requires { length octets.now ≤ 8 }
+    ensures len { length result ≡ 16 }
+    ensures each { (k : ℕ) → slice_index result k ≡ slice_index (unpack octets.now) k }
 {
-    let octet = octets[k / 2];
-    if k % 2 == 0 { octet & 0x0F } else { octet >> 4 }
-}
-
-// The number with the first digits, or none where one of them is above 9.
-fn digits_of(octets: &[u8], count: usize) -> Option<Number>
-    requires { (3 ≤ count) × ((count ≤ 15) × (count ≤ 2 * length octets.now)) }
-    ensures { MatchOption result (all_digits (take count (unpack octets.now)) ≡ false) (λ n. (all_digits (take count (unpack octets.now)) ≡ true) × (n ≡ number_of (take count (unpack octets.now)))) }
-{
-    let mut all = Digits::new();
-    for k in 0..count {
-        let Some(()) = all.add(digit_at(octets, k)) else {
-            return None;
-        };
+    let mut halves = [0; 16];
+    for (k, octet) in octets.iter().enumerate() {
+        halves[2 * k] = octet & 0x0F;
+        halves[2 * k + 1] = octet >> 4;
     }
-    all.number()
+    halves
 }
 
 // The digits, then the filler behind an odd count of them.
@@ -51,10 +36,11 @@ fn digits_and_filler(
     requires { (3 ≤ count) × ((count ≤ 15) × ((count ≤ 2 * length octets.now) × (2 * length octets.now ≤ count + 1))) }
     ensures { result ≡ read_digits restricted count octets.now }
 {
-    let Some(number) = digits_of(octets, count) else {
+    let halves = halves(octets);
+    let Ok(number) = Number::try_from(&halves[..count]) else {
         return Err(NumberFault::Digit);
     };
-    if count < 2 * octets.len() && digit_at(octets, count) != 0 {
+    if halves[count] != 0 {
         return Err(NumberFault::Filler);
     }
     Ok((Party { number, restricted }, octets.len()))
@@ -64,25 +50,18 @@ fn digits_and_filler(
 pub fn read_number(octets: &[u8], may_restrict: bool) -> Result<(Party<Number>, usize), NumberFault>
     ensures { result ≡ read_number may_restrict octets.now }
 {
-    if octets.len() < 2 {
+    let [nature, plan, digits @ ..] = octets else {
+        return Err(NumberFault::Count);
+    };
+    let odd = if *nature >= 0x80 { 1 } else { 0 };
+    let count = (2 * digits.len()).saturating_sub(odd);
+    if count < 3 || count > 15 {
         return Err(NumberFault::Count);
     }
-    let (_, digits) = octets.split_at(2);
-    let nature = octets[0];
-    let plan = octets[1];
-    let odd = if nature >= 0x80 { 1 } else { 0 };
-    let used = digits.len();
-    if used < 2 || used > 8 {
-        return Err(NumberFault::Count);
-    }
-    let count = 2 * used - odd;
-    if count > 15 {
-        return Err(NumberFault::Count);
-    }
-    if nature != 0x03 && nature != 0x83 {
+    if *nature != 0x03 && *nature != 0x83 {
         return Err(NumberFault::NatureOrPlan);
     }
-    match plan {
+    match *plan {
         0x10 => digits_and_filler(digits, false, count),
         0x14 if may_restrict => digits_and_filler(digits, true, count),
         _ => Err(NumberFault::NatureOrPlan),
@@ -90,9 +69,7 @@ pub fn read_number(octets: &[u8], may_restrict: bool) -> Result<(Party<Number>, 
 }
 
 // Octets are accepted exactly where they are the content of a number, and it is that number that is answered.
-pub fn numbers_are_read_as_coded() -> u8
+pub fn numbers_are_read_as_coded()
     ensures read { NumbersAreReadAsCoded }
     ensures one { OneNumberToACoding }
-{
-    0
-}
+{}

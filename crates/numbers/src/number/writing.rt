@@ -1,32 +1,21 @@
 // Writing the content octets of a number.
-ghost use Rattle.std.specs.Prelude.{◌≡◌, ◌+◌, ◌<◌, ◌≤◌, ◌++◌, length, slice_index};
-ghost use Rattle.numbers.specs.Digits.{pack, digits_of, content};
-ghost use Rattle.numbers.specs.Drafts.{drafted, cut, Written};
+ghost use Rattle.std.specs.Prelude.{◌≡◌, ℕ, ◌<◌, ◌≤◌, [], ◌∷◌, length, slice_index};
+ghost use Rattle.numbers.specs.Digits.{pack, content};
+ghost use Rattle.numbers.specs.Drafts.{Adds, Written};
 
 use super::{Number, Party};
 use crate::draft::Draft;
 use crate::refusal::Refusal;
 
-impl Number {
-    // Octet k of the digits, the earlier digit in the low half.
-    fn digit_octet(&self, k: usize) -> u8
-        requires { k < 8 }
-        ensures { result ≡ slice_index (pack (digits_of self.now)) k }
-    {
-        let low = self.digits[2 * k];
-        if k == 7 {
-            return low;
-        }
-        let high = self.digits[2 * k + 1];
-        (high << 4) | low
-    }
-
-    // How many octets the digits take.
-    fn digit_octets(&self) -> usize
-        ensures count { result ≡ length (pack (digits_of self.now)) }
-        ensures bound { result ≤ 8 }
-    {
-        (self.count + 1) / 2
+// Two digits in an octet, the earlier in the low half; one alone is filled with 0.
+fn octet_of(pair: &[u8]) -> u8
+    requires { (0 < length pair.now) × ((length pair.now ≤ 2) × ((k : ℕ) → slice_index pair.now k ≤ 9)) }
+    ensures { result ∷ [] ≡ pack pair.now }
+{
+    match *pair {
+        [low, high] => (high << 4) | low,
+        [low] => low,
+        _ => unreachable!(),
     }
 }
 
@@ -36,22 +25,19 @@ impl Party<Number> {
         ensures count { result ≡ length (content self.now) }
         ensures bound { result ≤ 10 }
     {
-        2 + self.number.digit_octets()
+        2 + self.number.digits().len().div_ceil(2)
     }
 
     // Adds the content to a draft.
     pub fn draft(&self, draft: &mut Draft)
-        ensures { drafted draft.new ≡ cut (drafted draft.old ++ content self.now) }
+        ensures { Adds draft.old draft.new (content self.now) }
     {
-        let nature = if self.number.count % 2 == 1 {
-            0x83
-        } else {
-            0x03
-        };
+        let digits = self.number.digits();
+        let nature = if digits.len() % 2 == 1 { 0x83 } else { 0x03 };
         let plan = if self.restricted { 0x14 } else { 0x10 };
         draft.push_all(&[nature, plan]);
-        for k in 0..self.number.digit_octets() {
-            draft.push(self.number.digit_octet(k));
+        for pair in digits.chunks(2) {
+            draft.push(octet_of(pair));
         }
     }
 }
