@@ -105,7 +105,7 @@ pub struct RedirectionInformation {
 }
 
 // The redirecting number, the original called number and the redirection information: all or none.
-#[derive(Clone, Copy)]
+#[derive(Clone, Copy, Debug, PartialEq, Eq)]
 pub struct Redirection<N> {
     pub redirecting: Party<N>,
     pub original: Party<N>,
@@ -120,14 +120,14 @@ pub struct DiversionInformation {
 }
 
 // The notice of a diversion that goes back towards the caller: what may be told of it, and the redirection number.
-#[derive(Clone, Copy)]
+#[derive(Clone, Copy, Debug, PartialEq, Eq)]
 pub struct Notice<N> {
     pub information: DiversionInformation,
     pub number: N,
 }
 
 // The optional parts of an address complete and of a call progress.
-#[derive(Clone, Copy)]
+#[derive(Clone, Copy, Debug, PartialEq, Eq)]
 pub struct Backward<N> {
     pub may_divert: bool,
     pub notice: Option<Notice<N>>,
@@ -145,7 +145,7 @@ pub enum MessageKind {
     Release = 0x0C,
 }
 
-#[derive(Clone, Copy)]
+#[derive(Clone, Copy, Debug, PartialEq, Eq)]
 pub enum Message<N = Number> {
     InitialAddress(Service, N, Option<Redirection<N>>),
     AddressComplete(LineStatus, Backward<N>),
@@ -156,7 +156,7 @@ pub enum Message<N = Number> {
 }
 
 // A message on its circuit, on its way from one exchange to another.
-#[derive(Clone, Copy)]
+#[derive(Clone, Copy, Debug, PartialEq, Eq)]
 pub struct Envelope<N = Number> {
     pub from: Exchange,
     pub to: Exchange,

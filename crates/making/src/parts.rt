@@ -3,7 +3,7 @@ use isup::message::{Notice, Redirection, Restriction};
 use numbers::number::{Number, Party};
 
 // The parts that one or the other message must have.
-#[derive(Clone, Copy)]
+#[derive(Clone, Copy, Debug, Default, PartialEq, Eq)]
 pub struct Mandatory {
     pub service: Option<u8>,
     pub called: Option<Number>,
@@ -13,7 +13,7 @@ pub struct Mandatory {
 }
 
 // The codes of the redirection information.
-#[derive(Clone, Copy)]
+#[derive(Clone, Copy, Debug, PartialEq, Eq)]
 pub struct RawInformation {
     pub indicator: u8,
     pub count: u8,
@@ -21,7 +21,7 @@ pub struct RawInformation {
 }
 
 // The redirecting number, the original called number and the redirection information.
-#[derive(Clone, Copy)]
+#[derive(Clone, Copy, Debug, Default, PartialEq, Eq)]
 pub struct RawRedirection {
     pub redirecting: Option<Party<Number>>,
     pub original: Option<Party<Number>>,
@@ -29,14 +29,14 @@ pub struct RawRedirection {
 }
 
 // The codes of the call diversion information.
-#[derive(Clone, Copy)]
+#[derive(Clone, Copy, Debug, PartialEq, Eq)]
 pub struct RawDiversion {
     pub notification: u8,
     pub reason: u8,
 }
 
 // The announcement of a diversion, the call diversion information and the redirection number.
-#[derive(Clone, Copy)]
+#[derive(Clone, Copy, Debug, Default, PartialEq, Eq)]
 pub struct RawNotice {
     pub announced: bool,
     pub diversion: Option<RawDiversion>,
@@ -44,7 +44,7 @@ pub struct RawNotice {
 }
 
 // All that a message may be made from: its call and leg, its type octet, and the parts.
-#[derive(Clone, Copy)]
+#[derive(Clone, Copy, Debug, Default, PartialEq, Eq)]
 pub struct Parts {
     pub call: u8,
     pub leg: u8,
@@ -57,7 +57,7 @@ pub struct Parts {
 }
 
 // The optional parts, once they are found whole and in range.
-#[derive(Clone, Copy)]
+#[derive(Clone, Copy, Debug, PartialEq, Eq)]
 pub(crate) struct Optional {
     pub(crate) redirection: Option<Redirection<Number>>,
     pub(crate) may_divert: bool,

@@ -15,25 +15,7 @@ fn bare(kind: u8) -> Parts {
         call: 63,
         leg: 5,
         kind,
-        mandatory: Mandatory {
-            service: None,
-            called: None,
-            status: None,
-            event: None,
-            cause: None,
-        },
-        redirection: RawRedirection {
-            redirecting: None,
-            original: None,
-            information: None,
-        },
-        may_divert: false,
-        notice: RawNotice {
-            announced: false,
-            diversion: None,
-            number: None,
-        },
-        restriction: None,
+        ..Parts::default()
     }
 }
 
