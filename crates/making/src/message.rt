@@ -12,152 +12,162 @@ use isup::message::{
 use numbers::number::Number;
 use numbers::refusal::Refusal;
 
-// The optional parts of an address complete or a call progress, and no others.
-fn backward(optional: Optional) -> Result<Backward<Number>, Refusal>
-    ensures { result ≡ or_refused (backward_in optional) }
-{
-    let Optional {
-        redirection: None,
-        may_divert,
-        notice,
-        restriction,
-    } = optional
-    else {
-        return Err(Refusal::OutOfRange);
-    };
-    Ok(Backward {
-        may_divert,
-        notice,
-        restriction,
-    })
+impl Optional {
+    // The optional parts of an address complete or a call progress, and no others.
+    fn backward(self) -> Result<Backward<Number>, Refusal>
+        ensures { result ≡ or_refused (backward_in self) }
+    {
+        let Optional {
+            redirection: None,
+            may_divert,
+            notice,
+            restriction,
+        } = self
+        else {
+            return Err(Refusal::OutOfRange);
+        };
+        Ok(Backward {
+            may_divert,
+            notice,
+            restriction,
+        })
+    }
+
+    // The restriction, if any, and no other optional part.
+    fn restriction_alone(self) -> Result<Option<Restriction>, Refusal>
+        ensures { result ≡ or_refused (restriction_alone self) }
+    {
+        let Optional {
+            redirection: None,
+            may_divert: false,
+            notice: None,
+            restriction,
+        } = self
+        else {
+            return Err(Refusal::OutOfRange);
+        };
+        Ok(restriction)
+    }
 }
 
-// The restriction, if any, and no other optional part.
-fn restriction_alone(optional: Optional) -> Result<Option<Restriction>, Refusal>
-    ensures { result ≡ or_refused (restriction_alone optional) }
-{
-    let Optional {
-        redirection: None,
-        may_divert: false,
-        notice: None,
-        restriction,
-    } = optional
-    else {
-        return Err(Refusal::OutOfRange);
-    };
-    Ok(restriction)
+// The parts of a message whose optional parts are whole and in range.
+#[derive(Clone, Copy)]
+pub(crate) struct Contents {
+    pub(crate) mandatory: Mandatory,
+    pub(crate) optional: Optional,
 }
 
-fn initial_address(mandatory: Mandatory, optional: Optional) -> Result<Message, Refusal>
-    ensures { result ≡ or_refused (initial_in mandatory optional) }
-{
-    let Mandatory {
-        service: Some(service),
-        called: Some(called),
-        status: None,
-        event: None,
-        cause: None,
-    } = mandatory
-    else {
-        return Err(Refusal::OutOfRange);
-    };
-    let Optional {
-        redirection,
-        may_divert: false,
-        notice: None,
-        restriction: None,
-    } = optional
-    else {
-        return Err(Refusal::OutOfRange);
-    };
-    let service = Service::try_from(service)?;
-    Ok(Message::InitialAddress(service, called, redirection))
-}
+impl Contents {
+    fn initial_address(self) -> Result<Message, Refusal>
+        ensures { result ≡ or_refused (initial_in self.mandatory self.optional) }
+    {
+        let Contents {
+            mandatory: Mandatory {
+                service: Some(service),
+                called: Some(called),
+                status: None,
+                event: None,
+                cause: None,
+            },
+            optional: Optional {
+                redirection,
+                may_divert: false,
+                notice: None,
+                restriction: None,
+            },
+        } = self
+        else {
+            return Err(Refusal::OutOfRange);
+        };
+        let service = Service::try_from(service)?;
+        Ok(Message::InitialAddress(service, called, redirection))
+    }
 
-fn address_complete(mandatory: Mandatory, optional: Optional) -> Result<Message, Refusal>
-    ensures { result ≡ or_refused (complete_in mandatory optional) }
-{
-    let Mandatory {
-        service: None,
-        called: None,
-        status: Some(status),
-        event: None,
-        cause: None,
-    } = mandatory
-    else {
-        return Err(Refusal::OutOfRange);
-    };
-    let status = LineStatus::try_from(status)?;
-    let parts = backward(optional)?;
-    Ok(Message::AddressComplete(status, parts))
-}
+    fn address_complete(self) -> Result<Message, Refusal>
+        ensures { result ≡ or_refused (complete_in self.mandatory self.optional) }
+    {
+        let Mandatory {
+            service: None,
+            called: None,
+            status: Some(status),
+            event: None,
+            cause: None,
+        } = self.mandatory
+        else {
+            return Err(Refusal::OutOfRange);
+        };
+        let status = LineStatus::try_from(status)?;
+        let parts = self.optional.backward()?;
+        Ok(Message::AddressComplete(status, parts))
+    }
 
-fn call_progress(mandatory: Mandatory, optional: Optional) -> Result<Message, Refusal>
-    ensures { result ≡ or_refused (progress_in mandatory optional) }
-{
-    let Mandatory {
-        service: None,
-        called: None,
-        status: None,
-        event: Some(event),
-        cause: None,
-    } = mandatory
-    else {
-        return Err(Refusal::OutOfRange);
-    };
-    let event = Event::try_from(event)?;
-    let parts = backward(optional)?;
-    Ok(Message::CallProgress(event, parts))
-}
+    fn call_progress(self) -> Result<Message, Refusal>
+        ensures { result ≡ or_refused (progress_in self.mandatory self.optional) }
+    {
+        let Mandatory {
+            service: None,
+            called: None,
+            status: None,
+            event: Some(event),
+            cause: None,
+        } = self.mandatory
+        else {
+            return Err(Refusal::OutOfRange);
+        };
+        let event = Event::try_from(event)?;
+        let parts = self.optional.backward()?;
+        Ok(Message::CallProgress(event, parts))
+    }
 
-// What an answer or a connect carries: no mandatory part, and the restriction, if any.
-fn connected(mandatory: Mandatory, optional: Optional) -> Result<Option<Restriction>, Refusal>
-    ensures { result ≡ or_refused (connected_in mandatory optional) }
-{
-    let Mandatory {
-        service: None,
-        called: None,
-        status: None,
-        event: None,
-        cause: None,
-    } = mandatory
-    else {
-        return Err(Refusal::OutOfRange);
-    };
-    restriction_alone(optional)
-}
+    // What an answer or a connect carries: no mandatory part, and the restriction, if any.
+    fn connected(self) -> Result<Option<Restriction>, Refusal>
+        ensures { result ≡ or_refused (connected_in self.mandatory self.optional) }
+    {
+        let Mandatory {
+            service: None,
+            called: None,
+            status: None,
+            event: None,
+            cause: None,
+        } = self.mandatory
+        else {
+            return Err(Refusal::OutOfRange);
+        };
+        self.optional.restriction_alone()
+    }
 
-fn release(mandatory: Mandatory, optional: Optional) -> Result<Message, Refusal>
-    ensures { result ≡ or_refused (release_in mandatory optional) }
-{
-    let Mandatory {
-        service: None,
-        called: None,
-        status: None,
-        event: None,
-        cause: Some(cause),
-    } = mandatory
-    else {
-        return Err(Refusal::OutOfRange);
-    };
-    let None = restriction_alone(optional)? else {
-        return Err(Refusal::OutOfRange);
-    };
-    let cause = Cause::new(cause).ok_or(Refusal::OutOfRange)?;
-    Ok(Message::Release(cause))
-}
+    fn release(self) -> Result<Message, Refusal>
+        ensures { result ≡ or_refused (release_in self.mandatory self.optional) }
+    {
+        let Mandatory {
+            service: None,
+            called: None,
+            status: None,
+            event: None,
+            cause: Some(cause),
+        } = self.mandatory
+        else {
+            return Err(Refusal::OutOfRange);
+        };
+        let None = self.optional.restriction_alone()? else {
+            return Err(Refusal::OutOfRange);
+        };
+        let cause = Cause::new(cause).ok_or(Refusal::OutOfRange)?;
+        Ok(Message::Release(cause))
+    }
 
-// The message of a type octet.
-fn message(kind: u8, mandatory: Mandatory, optional: Optional) -> Result<Message, Refusal>
-    ensures { result ≡ or_refused (message_in kind mandatory optional) }
-{
-    match MessageKind::try_from(kind)? {
-        MessageKind::InitialAddress => initial_address(mandatory, optional),
-        MessageKind::AddressComplete => address_complete(mandatory, optional),
-        MessageKind::CallProgress => call_progress(mandatory, optional),
-        MessageKind::Answer => Ok(Message::Answer(connected(mandatory, optional)?)),
-        MessageKind::Connect => Ok(Message::Connect(connected(mandatory, optional)?)),
-        MessageKind::Release => release(mandatory, optional),
+    // The message of a type octet.
+    fn message(self, kind: u8) -> Result<Message, Refusal>
+        ensures { result ≡ or_refused (message_in kind self.mandatory self.optional) }
+    {
+        match MessageKind::try_from(kind)? {
+            MessageKind::InitialAddress => self.initial_address(),
+            MessageKind::AddressComplete => self.address_complete(),
+            MessageKind::CallProgress => self.call_progress(),
+            MessageKind::Answer => Ok(Message::Answer(self.connected()?)),
+            MessageKind::Connect => Ok(Message::Connect(self.connected()?)),
+            MessageKind::Release => self.release(),
+        }
     }
 }
 
@@ -168,6 +178,10 @@ pub fn make_message(parts: &Parts) -> Result<(Circuit, Message), Refusal>
 {
     let circuit = Circuit::new(parts.call, parts.leg).ok_or(Refusal::OutOfRange)?;
     let optional = optional(parts)?;
-    let message = message(parts.kind, parts.mandatory, optional)?;
+    let contents = Contents {
+        mandatory: parts.mandatory,
+        optional,
+    };
+    let message = contents.message(parts.kind)?;
     Ok((circuit, message))
 }
