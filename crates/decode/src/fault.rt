@@ -1,12 +1,12 @@
 // Why octets are no message.
-ghost use Rattle.std.specs.Prelude.{◌≡◌, Some, None};
+ghost use Rattle.std.specs.Prelude.{◌≡◌, Some};
 ghost use Rattle.decode.specs.declared.fault.MessageFault.TheVariants.{Value};
-ghost use Rattle.decode.specs.Faults.{fault_number, fault_place, fault_within, or_value_fault, fault_at};
+ghost use Rattle.decode.specs.Faults.{fault_number, fault_place, fault_within};
 
 use numbers::number::NumberFault;
 
 // Each with the place of the field, the parameter or the early 00 that it is about.
-#[derive(Clone, Copy)]
+#[derive(Clone, Copy, PartialEq, Eq)]
 pub enum MessageFault {
     // Fewer than 3 octets or more than 255.
     Length,
@@ -50,12 +50,12 @@ impl MessageFault {
         match self {
             MessageFault::Length => 0,
             MessageFault::Kind => 2,
-            MessageFault::Missing(place) => place,
-            MessageFault::Pointer(place) => place,
-            MessageFault::Optional(place) => place,
-            MessageFault::Value(place, _) => place,
-            MessageFault::Repeated(place) => place,
-            MessageFault::Group(place) => place,
+            MessageFault::Missing(place)
+            | MessageFault::Pointer(place)
+            | MessageFault::Optional(place)
+            | MessageFault::Value(place, _)
+            | MessageFault::Repeated(place)
+            | MessageFault::Group(place) => place,
         }
     }
 
@@ -71,7 +71,7 @@ impl MessageFault {
 }
 
 // A number's fault and the place of the number's field.
-#[derive(Clone, Copy)]
+#[derive(Clone, Copy, PartialEq, Eq)]
 pub struct FaultAt {
     pub place: usize,
     pub fault: NumberFault,
@@ -82,25 +82,5 @@ impl From<FaultAt> for MessageFault {
 
     fn from(f: FaultAt) -> MessageFault {
         MessageFault::Value(f.place, Some(f.fault))
-    }
-}
-
-// Gives a number's fault the place of its field.
-pub(crate) fn fault_at<T: Copy>(r: Result<T, NumberFault>, place: usize) -> Result<T, FaultAt>
-    ensures { result ≡ fault_at r place }
-{
-    match r {
-        Ok(x) => Ok(x),
-        Err(fault) => Err(FaultAt { place, fault }),
-    }
-}
-
-// The value, or a fault at its place.
-pub(crate) fn or_value_fault<T: Copy>(value: Option<T>, place: usize) -> Result<T, MessageFault>
-    ensures { result ≡ or_value_fault value place }
-{
-    match value {
-        Some(x) => Ok(x),
-        None => Err(MessageFault::Value(place, None)),
     }
 }

@@ -1,9 +1,10 @@
 // What the optional part of a message says.
-ghost use Rattle.std.specs.Prelude.{◌≡◌, ◌≤◌, length};
+ghost use Rattle.std.specs.Prelude.{◌≡◌, ◌≤◌, length, MatchResult, OnErr, Ok, Err};
+ghost use Rattle.numbers.specs.Reading.{read_number};
 ghost use Rattle.decode.specs.Parameters.{part_of, InItsCase};
-ghost use Rattle.decode.specs.Optional.{nothing, value_of, add_of, end_of, optional_from};
+ghost use Rattle.decode.specs.Optional.{nothing, number_at, value_of, start, add_of, end_of, optional_from};
 
-use crate::fault::{MessageFault, fault_at, or_value_fault};
+use crate::fault::{FaultAt, MessageFault};
 use crate::parameter::{OptionalParameter, OptionalPart};
 use crate::values::{diversion, information, is_octet, restriction};
 use isup::message::{DiversionInformation, RedirectionInformation, Restriction};
@@ -32,6 +33,107 @@ pub(crate) struct Walk<N> {
     pub again: Option<usize>,
 }
 
+impl Gathered<Number> {
+    // Takes the value of one parameter beside those of others; a fault changes nothing.
+    fn gather(&mut self, p: OptionalParameter) -> Result<(), MessageFault>
+        requires { InItsCase p }
+        ensures value { MatchResult result (λ _. value_of self.old (part_of p.entry) ≡ Ok self.new) (λ f. value_of self.old (part_of p.entry) ≡ Err f) }
+        ensures same { OnErr result (self.new ≡ self.old) }
+    {
+        match p {
+            OptionalParameter::Redirecting(content, at) => {
+                self.redirecting = Some(party(content, true, at)?);
+            }
+            OptionalParameter::Original(content, at) => {
+                self.original = Some(party(content, true, at)?);
+            }
+            OptionalParameter::Information(content, at) => {
+                let value = information(content).ok_or(MessageFault::Value(at, None))?;
+                self.information = Some(value);
+            }
+            OptionalParameter::MayDivert(content, at) => {
+                if !is_octet(content, 0x02) {
+                    return Err(MessageFault::Value(at, None));
+                }
+                self.may_divert = true;
+            }
+            OptionalParameter::Announced(content, at) => {
+                if !is_octet(content, 0xFB) {
+                    return Err(MessageFault::Value(at, None));
+                }
+                self.announced = true;
+            }
+            OptionalParameter::Diversion(content, at) => {
+                let value = diversion(content).ok_or(MessageFault::Value(at, None))?;
+                self.diversion = Some(value);
+            }
+            OptionalParameter::Redirection(content, at) => {
+                self.redirection = Some(party(content, false, at)?.number);
+            }
+            OptionalParameter::Restriction(content, at) => {
+                let value = restriction(content).ok_or(MessageFault::Value(at, None))?;
+                self.restriction = Some(value);
+            }
+            OptionalParameter::Foreign(..) => {}
+        }
+        Ok(())
+    }
+}
+
+impl Walk<Number> {
+    fn new() -> Walk<Number>
+        ensures { result ≡ start }
+    {
+        Walk {
+            gathered: nothing(),
+            fault: None,
+            again: None,
+        }
+    }
+
+    // Goes over one parameter more of the row, told whether its name was met before.
+    fn add(&mut self, p: OptionalParameter, met: bool)
+        requires { InItsCase p }
+        ensures { self.new ≡ add_of self.old (part_of p.entry) met }
+    {
+        if met {
+            self.again = self.again.or(Some(p.place()));
+        } else if self.fault.is_none() {
+            self.fault = self.gathered.gather(p).err();
+        }
+    }
+
+    // What the walk found: a name met again comes before a fault of a value.
+    fn end(self) -> Result<Gathered<Number>, MessageFault>
+        ensures { result ≡ end_of self }
+    {
+        match self {
+            Walk {
+                again: Some(place),
+                ..
+            } => Err(MessageFault::Repeated(place)),
+            Walk {
+                fault: Some(fault),
+                ..
+            } => Err(fault),
+            Walk { gathered, .. } => Ok(gathered),
+        }
+    }
+}
+
+// The number at a place, under its mark.
+pub(crate) fn party(
+    content: &[u8],
+    may_restrict: bool,
+    at: usize,
+) -> Result<Party<Number>, MessageFault>
+    ensures { result ≡ number_at at (read_number may_restrict content.now) }
+{
+    let read = read_number(content, may_restrict).map_err(|fault| FaultAt { place: at, fault });
+    let (party, _) = read?;
+    Ok(party)
+}
+
 pub(crate) fn nothing() -> Gathered<Number>
     ensures { result ≡ nothing }
 {
@@ -47,93 +149,6 @@ pub(crate) fn nothing() -> Gathered<Number>
     }
 }
 
-// The value of one parameter beside those of others.
-fn value_of(
-    gathered: Gathered<Number>,
-    p: OptionalParameter,
-) -> Result<Gathered<Number>, MessageFault>
-    requires { InItsCase p }
-    ensures { result ≡ value_of gathered (part_of p.entry) }
-{
-    let mut g = gathered;
-    match p {
-        OptionalParameter::Redirecting(content, at) => {
-            let (party, _) = fault_at(read_number(content, true), at)?;
-            g.redirecting = Some(party);
-        }
-        OptionalParameter::Original(content, at) => {
-            let (party, _) = fault_at(read_number(content, true), at)?;
-            g.original = Some(party);
-        }
-        OptionalParameter::Information(content, at) => {
-            g.information = Some(or_value_fault(information(content), at)?);
-        }
-        OptionalParameter::MayDivert(content, at) => {
-            if !is_octet(content, 0x02) {
-                return Err(MessageFault::Value(at, None));
-            }
-            g.may_divert = true;
-        }
-        OptionalParameter::Announced(content, at) => {
-            if !is_octet(content, 0xFB) {
-                return Err(MessageFault::Value(at, None));
-            }
-            g.announced = true;
-        }
-        OptionalParameter::Diversion(content, at) => {
-            g.diversion = Some(or_value_fault(diversion(content), at)?);
-        }
-        OptionalParameter::Redirection(content, at) => {
-            let (party, _) = fault_at(read_number(content, false), at)?;
-            g.redirection = Some(party.number);
-        }
-        OptionalParameter::Restriction(content, at) => {
-            g.restriction = Some(or_value_fault(restriction(content), at)?);
-        }
-        OptionalParameter::Foreign(..) => {}
-    }
-    Ok(g)
-}
-
-// The walk after one parameter more of the row, told whether its name was met before.
-fn add(walk: Walk<Number>, p: OptionalParameter, met: bool) -> Walk<Number>
-    requires { InItsCase p }
-    ensures { result ≡ add_of walk (part_of p.entry) met }
-{
-    let mut w = walk;
-    if met {
-        if w.again.is_none() {
-            w.again = Some(p.place());
-        }
-        return w;
-    }
-    if w.fault.is_some() {
-        return w;
-    }
-    match value_of(w.gathered, p) {
-        Ok(g) => w.gathered = g,
-        Err(e) => w.fault = Some(e),
-    }
-    w
-}
-
-// What the walk found: a name met again comes before a fault of a value.
-fn end(walk: Walk<Number>) -> Result<Gathered<Number>, MessageFault>
-    ensures { result ≡ end_of walk }
-{
-    match walk {
-        Walk {
-            again: Some(place),
-            ..
-        } => Err(MessageFault::Repeated(place)),
-        Walk {
-            fault: Some(fault),
-            ..
-        } => Err(fault),
-        Walk { gathered, .. } => Ok(gathered),
-    }
-}
-
 // Reads the optional part from a place on in one walk: faults of its structure come first, then names met again, then values.
 pub(crate) fn read_optional(
     row: Row,
@@ -145,21 +160,13 @@ pub(crate) fn read_optional(
 {
     let mut part = OptionalPart::new(octets, place);
     let mut met = [false; 256];
-    let mut walk = Walk {
-        gathered: nothing(),
-        fault: None,
-        again: None,
-    };
-    loop {
-        match part.next()? {
-            Some(p) => {
-                let name = p.name();
-                if row.has(name) {
-                    walk = add(walk, p, met[name as usize]);
-                    met[name as usize] = true;
-                }
-            }
-            None => return end(walk),
+    let mut walk = Walk::new();
+    while let Some(p) = part.next()? {
+        let name = p.name();
+        if row.has(name) {
+            walk.add(p, met[name as usize]);
+            met[name as usize] = true;
         }
     }
+    walk.end()
 }

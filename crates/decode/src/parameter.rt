@@ -40,15 +40,15 @@ impl<'a> OptionalParameter<'a> {
         ensures { result ≡ (part_of self.now).place }
     {
         match *self {
-            OptionalParameter::Redirecting(_, at) => at,
-            OptionalParameter::Original(_, at) => at,
-            OptionalParameter::Information(_, at) => at,
-            OptionalParameter::MayDivert(_, at) => at,
-            OptionalParameter::Announced(_, at) => at,
-            OptionalParameter::Diversion(_, at) => at,
-            OptionalParameter::Redirection(_, at) => at,
-            OptionalParameter::Restriction(_, at) => at,
-            OptionalParameter::Foreign(_, _, at) => at,
+            OptionalParameter::Redirecting(_, at)
+            | OptionalParameter::Original(_, at)
+            | OptionalParameter::Information(_, at)
+            | OptionalParameter::MayDivert(_, at)
+            | OptionalParameter::Announced(_, at)
+            | OptionalParameter::Diversion(_, at)
+            | OptionalParameter::Redirection(_, at)
+            | OptionalParameter::Restriction(_, at)
+            | OptionalParameter::Foreign(_, _, at) => at,
         }
     }
 }
@@ -100,8 +100,7 @@ impl<'a> OptionalPart<'a> {
         if at > self.octets.len() {
             return Err(MessageFault::Optional(at));
         }
-        let (_, left) = self.octets.split_at(at);
-        match left {
+        match &self.octets[at..] {
             [0] => {
                 self.place = at + 1;
                 Ok(None)

@@ -3,13 +3,12 @@ ghost use Rattle.std.specs.Prelude.{◌≡◌, ◌+◌, ◌<◌, ◌≤◌, leng
 ghost use Rattle.decode.specs.Messages.{octet_in, exact_in, variable_in, optional_in, tail_in, redirection_in, notice_in, service_in, backward_in, initial_address_in, address_complete_in, call_progress_in, answer_in, connect_in, release_in, message_in, read_message};
 ghost use Rattle.decode.specs.Reading.{ReadAsCoded, EveryCodingIsRead, OnlyCodingsAreRead, OneMessageToACoding};
 
-use crate::fault::{MessageFault, fault_at, or_value_fault};
-use crate::optional::{Gathered, nothing, read_optional};
+use crate::fault::MessageFault;
+use crate::optional::{Gathered, nothing, party, read_optional};
 use crate::values::cause;
 use isup::message::{Backward, Circuit, Event, LineStatus, Message, Notice, Redirection, Service};
 use isup::row::Row;
 use numbers::number::Number;
-use numbers::number::reading::read_number;
 
 // An octet that must be there.
 fn octet(octets: &[u8], at: usize) -> Result<u8, MessageFault>
@@ -36,7 +35,6 @@ fn exact(octets: &[u8], at: usize, octet: u8) -> Result<(), MessageFault>
 
 // The content of the variable field that the pointer at a place leads to.
 fn variable<'a>(octets: &'a [u8], at: usize) -> Result<&'a [u8], MessageFault>
-    requires { at ≤ 100 }
     ensures seen { MatchResult result (λ c. variable_in octets.now at ≡ Ok c.now) (λ f. variable_in octets.now at ≡ Err f) }
     ensures fits { IfOk result (λ c. at + 3 + length c.now ≤ length octets.now) }
 {
@@ -81,7 +79,6 @@ fn optional(
 
 // The optional part of a message without a variable field.
 fn tail(row: Row, octets: &[u8], at: usize) -> Result<Gathered<Number>, MessageFault>
-    requires { at ≤ 100 }
     ensures { result ≡ tail_in row octets.now at }
 {
     if at >= octets.len() {
@@ -92,28 +89,20 @@ fn tail(row: Row, octets: &[u8], at: usize) -> Result<Gathered<Number>, MessageF
 
 // 0B, 28 and 13: all or none.
 fn redirection(
-    g: Gathered<Number>,
+    g: &Gathered<Number>,
     length: usize,
 ) -> Result<Option<Redirection<Number>>, MessageFault>
-    ensures { result ≡ redirection_in g length }
+    ensures { result ≡ redirection_in g.now length }
 {
-    let Some(redirecting) = g.redirecting else {
-        if g.original.is_some() || g.information.is_some() {
-            return Err(MessageFault::Group(length));
-        }
-        return Ok(None);
-    };
-    let Some(original) = g.original else {
-        return Err(MessageFault::Group(length));
-    };
-    let Some(information) = g.information else {
-        return Err(MessageFault::Group(length));
-    };
-    Ok(Some(Redirection {
-        redirecting,
-        original,
-        information,
-    }))
+    match (g.redirecting, g.original, g.information) {
+        (Some(redirecting), Some(original), Some(information)) => Ok(Some(Redirection {
+            redirecting,
+            original,
+            information,
+        })),
+        (None, None, None) => Ok(None),
+        _ => Err(MessageFault::Group(length)),
+    }
 }
 
 // 2C, 36 and 0C: all or none.
@@ -139,7 +128,7 @@ fn service(octets: &[u8]) -> Result<Service, MessageFault>
     exact(octets, 5, 0x01)?;
     exact(octets, 6, 0x0A)?;
     let code = octet(octets, 7)?;
-    or_value_fault(Service::from_code(code), 7)
+    Service::from_code(code).ok_or(MessageFault::Value(7, None))
 }
 
 fn initial_address(octets: &[u8]) -> Result<Message, MessageFault>
@@ -147,15 +136,14 @@ fn initial_address(octets: &[u8]) -> Result<Message, MessageFault>
 {
     let service = service(octets)?;
     let content = variable(octets, 8)?;
-    let (called, _) = fault_at(read_number(content, false), 10)?;
+    let called = party(content, false, 10)?;
     let g = optional(Row::Initial, octets, 9, 11 + content.len())?;
-    let redirection = redirection(g, octets.len())?;
+    let redirection = redirection(&g, octets.len())?;
     Ok(Message::InitialAddress(service, called.number, redirection))
 }
 
 // The optional parts of an address complete and of a call progress, whose pointer stands at a place.
 fn backward(octets: &[u8], at: usize) -> Result<Backward<Number>, MessageFault>
-    requires { at ≤ 100 }
     ensures { result ≡ backward_in octets.now at }
 {
     let g = tail(Row::Backward, octets, at)?;
@@ -171,7 +159,7 @@ fn address_complete(octets: &[u8]) -> Result<Message, MessageFault>
     ensures { result ≡ address_complete_in octets.now }
 {
     let code = octet(octets, 3)?;
-    let status = or_value_fault(LineStatus::from_code(code), 3)?;
+    let status = LineStatus::from_code(code).ok_or(MessageFault::Value(3, None))?;
     exact(octets, 4, 0x14)?;
     let back = backward(octets, 5)?;
     Ok(Message::AddressComplete(status, back))
@@ -181,7 +169,7 @@ fn call_progress(octets: &[u8]) -> Result<Message, MessageFault>
     ensures { result ≡ call_progress_in octets.now }
 {
     let code = octet(octets, 3)?;
-    let event = or_value_fault(Event::from_code(code), 3)?;
+    let event = Event::from_code(code).ok_or(MessageFault::Value(3, None))?;
     let back = backward(octets, 4)?;
     Ok(Message::CallProgress(event, back))
 }
@@ -206,7 +194,7 @@ fn release(octets: &[u8]) -> Result<Message, MessageFault>
     ensures { result ≡ release_in octets.now }
 {
     let content = variable(octets, 3)?;
-    let cause = or_value_fault(cause(content), 5)?;
+    let cause = cause(content).ok_or(MessageFault::Value(5, None))?;
     let _ = optional(Row::Bare, octets, 4, 6 + content.len())?;
     Ok(Message::Release(cause))
 }
@@ -234,7 +222,7 @@ fn front_to_back(octets: &[u8]) -> Result<(Circuit, Message), MessageFault>
     if octets.len() < 3 || octets.len() > 255 {
         return Err(MessageFault::Length);
     }
-    let circuit = or_value_fault(Circuit::from_octets(octets[0], octets[1]), 0)?;
+    let circuit = Circuit::from_octets(octets[0], octets[1]).ok_or(MessageFault::Value(0, None))?;
     let message = message(octets)?;
     Ok((circuit, message))
 }
@@ -250,10 +238,8 @@ pub fn read(octets: &[u8]) -> Result<(Circuit, Message), MessageFault>
 
 // What the definition of reading is worth: it reads every coding as its message and nothing else, and so no string of octets
 // codes two messages.
-pub fn codings_are_read_as_their_messages() -> u8
+pub fn codings_are_read_as_their_messages()
     ensures every { EveryCodingIsRead }
     ensures only { OnlyCodingsAreRead }
     ensures one { OneMessageToACoding }
-{
-    0
-}
+{}

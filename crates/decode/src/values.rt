@@ -10,7 +10,7 @@ use isup::message::{
 pub(crate) fn is_octet(content: &[u8], octet: u8) -> bool
     ensures { result ≡ is_octet content.now octet }
 {
-    content.len() == 1 && content[0] == octet
+    matches!(content, [only] if *only == octet)
 }
 
 // The low three bits of the second octet are the count, the next is 0, and the high four are the reason.

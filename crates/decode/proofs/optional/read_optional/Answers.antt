@@ -1,19 +1,16 @@
-use Rattle.std.proofs.Common.{◌≡◌, ℕ, ◌+◌, false, length, replicate, None, Result, refl, ap, ◌∙◌, arith, rules}
+use Rattle.std.proofs.Common.{◌≡◌, ℕ, ◌+◌, false, length, replicate, refl, ap, ◌∙◌, arith, rules}
 use Rattle.std.proofs.lemmas.Result.{err_from_is_err_and}
 use Rattle.std.proofs.lemmas.List.{length-set}
 use Rattle.decode.specs.Parameters.{given, closed, refused, part_of, step_at, after}
 use Rattle.numbers.specs.declared.number.Number.{Number}
-use Rattle.decode.specs.declared.fault.MessageFault.{MessageFault}
-use Rattle.decode.specs.declared.optional.Gathered.{Gathered}
-use Rattle.decode.specs.Optional.{nothing}
+use Rattle.decode.specs.declared.optional.Walk.{Walk}
+use Rattle.decode.specs.Optional.{start}
 use Rattle.decode.proofs.Walks.{run_by, ahead_then, ahead_else, stops, fails, walk_is}
 use Rattle.decode.proofs.optional.read_optional.Goals as goal
 
 pub loop-p-init : goal.loop-p-init
 loop-p-init c =
-    let xs = c.args.octets.now in
-    let run : ℕ → Gathered Number → Result (Gathered Number) MessageFault =
-    λ z g. run_by (length xs + 1) c.args.row xs z (replicate 256 false) (record { gathered = g; fault = None; again = None }) in (
+    let xs = c.args.octets.now in (
       search rules,
       search rules,
       refl,
@@ -21,8 +18,8 @@ loop-p-init c =
         length xs + 1,
         (
           omega arith,
-          ap (λ (g : Gathered Number). run c.new-part.result.place g) c.nothing.ensures ∙ ap (λ (z : ℕ). run z nothing) c.new-part.ensures.1
-              ∙ walk_is c.args.row xs c.args.place,
+          ap (λ (w : Walk Number). run_by (length xs + 1) c.args.row xs c.new-part.result.place (replicate 256 false) w) c.new-walk.ensures
+              ∙ ap (λ (z : ℕ). run_by (length xs + 1) c.args.row xs z (replicate 256 false) start) c.new-part.ensures.1 ∙ walk_is c.args.row xs c.args.place,
         ),
       ),
     )
@@ -33,8 +30,8 @@ loop-p-preserved-then-has c =
     let i = c.loop-p.invariant in
     let e : given (part_of c.in-Some.p) ≡ step_at c.args.octets.now c.loop-p.part.place = search rules in
     let t : c.next.new.self.place ≡ after (step_at c.args.octets.now c.loop-p.part.place) c.loop-p.part.place = cc in
-    let a = ahead_then i.3.0 c.args.row c.args.octets.now c.loop-p.part.place c.loop-p.met c.loop-p.walk c.add-walk.result (part_of c.in-Some.p)
-    c.name-name.result c.next.new.self.place i.3.1.0 i.0 e t h.onward c.name-name.ensures c.if-has.ensures c.add-walk.ensures in
+    let a = ahead_then i.3.0 c.args.row c.args.octets.now c.loop-p.part.place c.loop-p.met c.loop-p.walk c.add.new.self (part_of c.in-Some.p)
+    c.name-name.result c.next.new.self.place i.3.1.0 i.0 e t h.onward c.name-name.ensures c.if-has.ensures c.add.ensures in
     (search rules, search rules, length-set _ _ _ ∙ i.2, (a.0, (a.1.0, a.1.1 ∙ i.3.1.1)))
 
 pub loop-p-preserved : goal.loop-p-preserved
@@ -47,8 +44,8 @@ loop-p-preserved c =
     c.name-name.result c.next.new.self.place i.3.1.0 i.0 e t h.onward c.name-name.ensures c.if-has.ensures in
     (search rules, search rules, i.2, (a.0, (a.1.0, a.1.1 ∙ i.3.1.1)))
 
-pub returns-in-None : goal.returns-in-None
-returns-in-None c =
+pub returns : goal.returns
+returns c =
     let h = c.in_ok-p.ensures in
     let i = c.loop-p.invariant in
     let e : closed ≡ step_at c.args.octets.now c.loop-p.part.place = search rules in
