@@ -1,5 +1,5 @@
 -- One walk over the optional part finds what three passes would.
-use Rattle.std.proofs.Common.{◌≡◌, ℕ, zero, suc, ◌+◌, ◌<◌, ◌≤◌, Bool, true, false, cond, ◌||◌, List, [], ◌∷◌, length, get_or, set, replicate, Some, None, Ok, Err, Option, Result, sym, refl, ap, ◌∙◌, inl, inr, arith}
+use Rattle.std.proofs.Common.{◌≡◌, ℕ, zero, suc, ◌+◌, ◌<◌, ◌≤◌, Bool, true, false, cond, ◌||◌, List, [], ◌∷◌, length, get_or, set, replicate, Some, None, Ok, Err, Option, Result, sym, refl, ap, ◌∙◌, subst, inl, inr, arith}
 use Rattle.std.proofs.lemmas.List.{get_or-set_same, get_or-set_other, length-set, length-replicate}
 use Rattle.std.proofs.lemmas.Bool.Decides.{nat_tests, eqb_tells}
 use Rattle.std.proofs.lemmas.Bool.{cases_Bool}
@@ -18,7 +18,7 @@ use Rattle.decode.specs.Optional.{member, repeated, collected, unless_repeated, 
 abbrev Out : Type 0
 Out = Result (Gathered Number) MessageFault
 
-abbrev pub run : Row → List Bool → Walk Number → List Part → Out
+abbrev run : Row → List Bool → Walk Number → List Part → Out
 run row met s [] = end_of s
 run row met s (p ∷ ps) = run row (met_after row met p) (walk_after row met s p) ps
 
@@ -144,61 +144,61 @@ over_is : (row : Row) (r : Result (List Part) MessageFault) →
 over_is row (Ok ps) = run_is row (replicate 256 false) [] nothing ps (length-replicate 256 false, λ n h. nothing_met n 256)
 over_is row (Err f) = refl
 
-pub walk_is : (row : Row) (xs : List ℕ) (at : ℕ) → run_by (length xs + 1) row xs at (replicate 256 false) start ≡ optional_from row xs at
+walk_is : (row : Row) (xs : List ℕ) (at : ℕ) → run_by (length xs + 1) row xs at (replicate 256 false) start ≡ optional_from row xs at
 walk_is row xs at = by_parts (length xs + 1) row xs at (replicate 256 false) start ∙ over_is row (parts_by (length xs + 1) xs at)
 
--- the walk's steps, for a loop that keeps `run_by` of what is left
+-- what the walk from a place on comes to, in some number of steps
+pub record Comes (row : Row) (xs : List ℕ) (at : ℕ) (met : List Bool) (s : Walk Number) (out : Out) : Type 0 where
+  pub steps : ℕ
+  pub enough : length xs < steps + at
+  pub is : run_by steps row xs at met s ≡ out
+
+pub begins : (row : Row) (xs : List ℕ) (at : ℕ) → Comes row xs at (replicate 256 false) start (optional_from row xs at)
+begins row xs at = record { steps = length xs + 1; enough = omega arith; is = walk_is row xs at }
+
+-- what stands at the place decides how it goes on
 abbrev cont : ℕ → Row → List ℕ → ℕ → List Bool → Walk Number → Step → Out
 cont k row xs at met s t =
     elim t as (λ _. Out)
     [ closed ↦ end_of s | given p ↦ run_by k row xs (at + 2 + length p.content) (met_after row met p) (walk_after row met s p) | refused f ↦ Err f ]
 
-pub ahead :
-    (k : ℕ) (row : Row) (xs : List ℕ) (at : ℕ) (met : List Bool) (s : Walk Number) (p : Part) (to : ℕ) → length xs < k + at → at ≤ length xs →
-    given p ≡ step_at xs at → to ≡ after (step_at xs at) at → at < to →
-    (j : ℕ) × ((length xs < j + to) × (run_by j row xs to (met_after row met p) (walk_after row met s p) ≡ run_by k row xs at met s))
-ahead zero row xs at met s p to h b e t f = absurd (omega arith)
-ahead (suc k) row xs at met s p to h b e t f = (
-  k,
-  (
-    omega arith,
-    ap (λ (z : ℕ). run_by k row xs z (met_after row met p) (walk_after row met s p)) (t ∙ sym (ap (λ (q : Step). after q at) e))
-        ∙ ap (cont k row xs at met s) e,
-  ),
-)
+one_step :
+    (row : Row) (xs : List ℕ) (at : ℕ) (met : List Bool) (s : Walk Number) (out : Out) (t : Step) → Comes row xs at met s out → at ≤ length xs → t ≡ step_at xs at →
+    (k : ℕ) × ((length xs < suc k + at) × (cont k row xs at met s t ≡ out))
+one_step row xs at met s out t c b e = at_steps c.steps c.enough c.is
+  where
+    at_steps : (k : ℕ) → length xs < k + at → run_by k row xs at met s ≡ out → (j : ℕ) × ((length xs < suc j + at) × (cont j row xs at met s t ≡ out))
+    at_steps zero h i = absurd (omega arith)
+    at_steps (suc k) h i = (k, (h, ap (cont k row xs at met s) e ∙ i))
 
-pub stops :
-    (k : ℕ) (row : Row) (xs : List ℕ) (at : ℕ) (met : List Bool) (s : Walk Number) → length xs < k + at → at ≤ length xs →
-    closed ≡ step_at xs at → end_of s ≡ run_by k row xs at met s
-stops zero row xs at met s h b e = absurd (omega arith)
-stops (suc k) row xs at met s h b e = ap (cont k row xs at met s) e
+pub stops : (row : Row) (xs : List ℕ) (at : ℕ) (met : List Bool) (s : Walk Number) (out : Out) → Comes row xs at met s out → at ≤ length xs → closed ≡ step_at xs at → end_of s ≡ out
+stops row xs at met s out c b e = (one_step row xs at met s out closed c b e).1.1
 
 pub fails :
-    (k : ℕ) (row : Row) (xs : List ℕ) (at : ℕ) (met : List Bool) (s : Walk Number) (f : MessageFault) → length xs < k + at → at ≤ length xs →
-    refused f ≡ step_at xs at → Err f ≡ run_by k row xs at met s
-fails zero row xs at met s f h b e = absurd (omega arith)
-fails (suc k) row xs at met s f h b e = ap (cont k row xs at met s) e
+    (row : Row) (xs : List ℕ) (at : ℕ) (met : List Bool) (s : Walk Number) (out : Out) (f : MessageFault) → Comes row xs at met s out → at ≤ length xs → refused f ≡ step_at xs at → Err f ≡ out
+fails row xs at met s out f c b e = (one_step row xs at met s out (refused f) c b e).1.1
 
+ahead :
+    (row : Row) (xs : List ℕ) (at to : ℕ) (met : List Bool) (s : Walk Number) (out : Out) (p : Part) → Comes row xs at met s out → at ≤ length xs →
+    given p ≡ step_at xs at → to ≡ after (step_at xs at) at → Comes row xs to (met_after row met p) (walk_after row met s p) out
+ahead row xs at to met s out p c b e t =
+    let a = one_step row xs at met s out (given p) c b e in
+    let t' : at + 2 + length p.content ≡ to = sym (t ∙ sym (ap (λ (q : Step). after q at) e)) in
+    subst (λ (z : ℕ). Comes row xs z (met_after row met p) (walk_after row met s p) out) t' (record { steps = a.0; enough = omega arith; is = a.1.1 })
+
+-- a parameter of the row is added, and another is passed over
 pub ahead_then :
-    (k : ℕ) (row : Row) (xs : List ℕ) (at : ℕ) (met : List Bool) (s s' : Walk Number) (p : Part) (n to : ℕ) → length xs < k + at → at ≤ length xs →
-    given p ≡ step_at xs at → to ≡ after (step_at xs at) at → at < to → n ≡ p.name → true ≡ has row n → s' ≡ add_of s p (get_or met n false) →
-    (j : ℕ) × ((length xs < j + to) × (run_by j row xs to (set met n true) s' ≡ run_by k row xs at met s))
-ahead_then k row xs at met s s' p n to h b e t f i q r =
-    let a = ahead k row xs at met s p to h b e t f in
+    (row : Row) (xs : List ℕ) (at to n : ℕ) (met : List Bool) (s s' : Walk Number) (out : Out) (p : Part) → Comes row xs at met s out → at ≤ length xs →
+    given p ≡ step_at xs at → to ≡ after (step_at xs at) at → n ≡ p.name → true ≡ has row n → s' ≡ add_of s p (get_or met n false) → Comes row xs to (set met n true) s' out
+ahead_then row xs at to n met s s' out p c b e t i q r =
+    let a = ahead row xs at to met s out p c b e t in
     let q' : has row p.name ≡ true = sym (q ∙ ap (has row) i) in
-    let m : met_after row met p ≡ set met n true =
-    ap (λ (c : Bool). cond c (set met p.name true) met) q' ∙ ap (λ (z : ℕ). set met z true) (sym i) in
-    let g : walk_after row met s p ≡ s' =
-    ap (λ (c : Bool). cond c (add_of s p (get_or met p.name false)) s) q' ∙ ap (λ (z : ℕ). add_of s p (get_or met z false)) (sym i) ∙ sym r in
-    (a.0, (a.1.0, sym (ap (λ (l : List Bool). run_by a.0 row xs to l (walk_after row met s p)) m ∙ ap (λ (z : Walk Number). run_by a.0 row xs to (set met n true) z) g) ∙ a.1.1))
+    rw (r, i) (rw q' at a)
 
 pub ahead_else :
-    (k : ℕ) (row : Row) (xs : List ℕ) (at : ℕ) (met : List Bool) (s : Walk Number) (p : Part) (n to : ℕ) → length xs < k + at → at ≤ length xs →
-    given p ≡ step_at xs at → to ≡ after (step_at xs at) at → at < to → n ≡ p.name → false ≡ has row n →
-    (j : ℕ) × ((length xs < j + to) × (run_by j row xs to met s ≡ run_by k row xs at met s))
-ahead_else k row xs at met s p n to h b e t f i q =
-    let a = ahead k row xs at met s p to h b e t f in
+    (row : Row) (xs : List ℕ) (at to n : ℕ) (met : List Bool) (s : Walk Number) (out : Out) (p : Part) → Comes row xs at met s out → at ≤ length xs →
+    given p ≡ step_at xs at → to ≡ after (step_at xs at) at → n ≡ p.name → false ≡ has row n → Comes row xs to met s out
+ahead_else row xs at to n met s out p c b e t i q =
+    let a = ahead row xs at to met s out p c b e t in
     let q' : has row p.name ≡ false = sym (q ∙ ap (has row) i) in
-    let m : met_after row met p ≡ met = ap (λ (c : Bool). cond c (set met p.name true) met) q' in
-    let g : walk_after row met s p ≡ s = ap (λ (c : Bool). cond c (add_of s p (get_or met p.name false)) s) q' in
-    (a.0, (a.1.0, sym (ap (λ (l : List Bool). run_by a.0 row xs to l (walk_after row met s p)) m ∙ ap (λ (z : Walk Number). run_by a.0 row xs to met z) g) ∙ a.1.1))
+    rw q' at a

@@ -35,6 +35,7 @@ pub(crate) struct Walk<N> {
 
 impl Gathered<Number> {
     // Takes the value of one parameter beside those of others; a fault changes nothing.
+    #[inline(never)]
     fn gather(&mut self, p: OptionalParameter) -> Result<(), MessageFault>
         requires { InItsCase p }
         ensures value { MatchResult result (λ _. value_of self.old (part_of p.entry) ≡ Ok self.new) (λ f. value_of self.old (part_of p.entry) ≡ Err f) }
@@ -107,16 +108,10 @@ impl Walk<Number> {
     fn end(self) -> Result<Gathered<Number>, MessageFault>
         ensures { result ≡ end_of self }
     {
-        match self {
-            Walk {
-                again: Some(place),
-                ..
-            } => Err(MessageFault::Repeated(place)),
-            Walk {
-                fault: Some(fault),
-                ..
-            } => Err(fault),
-            Walk { gathered, .. } => Ok(gathered),
+        match (self.again, self.fault) {
+            (Some(place), _) => Err(MessageFault::Repeated(place)),
+            (None, Some(fault)) => Err(fault),
+            (None, None) => Ok(self.gathered),
         }
     }
 }
