@@ -31,7 +31,7 @@ one_by_one (suc n) at xs h =
     (one_by_one n (at + 1) xs (omega arith) ∙ ap (λ (m : ℕ). octets_from n (at + 1) xs ++ drop m xs) (let z : at + 1 + n ≡ at + suc n = omega arith in z))
 
 -- an optional part, or none, that carries what was gathered
-pub record Carrier (r : Row) (g : Gathered Number) : Type 0 where
+pub record Carrier (r : Row) (g : Gathered) : Type 0 where
   pub there : Bool
   pub parameters : List Parameter
   pub absent : there ≡ false → parameters ≡ []
@@ -39,13 +39,13 @@ pub record Carrier (r : Row) (g : Gathered Number) : Type 0 where
   pub carries : (n : ℕ) → has r n ≡ true → contents n parameters ≡ gathered_field g n
 
 -- its pointer and its octets
-record OptionalRead (r : Row) (xs : List ℕ) (at end : ℕ) (g : Gathered Number) : Type 0 where
+record OptionalRead (r : Row) (xs : List ℕ) (at end : ℕ) (g : Gathered) : Type 0 where
   pub part : Carrier r g
   pub pointer : get_or xs at 0 ≡ cond part.there (end - at) 0
   pub octets : drop end xs ≡ optional_octets part.there part.parameters
 
 none_read :
-    (r : Row) (xs : List ℕ) (at end : ℕ) (g : Gathered Number) → get_or xs at 0 ≡ 0 → cond (ltb end (length xs)) (Err (fault.Pointer end)) (Ok nothing) ≡ Ok g →
+    (r : Row) (xs : List ℕ) (at end : ℕ) (g : Gathered) → get_or xs at 0 ≡ 0 → cond (ltb end (length xs)) (Err (fault.Pointer end)) (Ok nothing) ≡ Ok g →
     OptionalRead r xs at end g
 none_read r xs at end g z e =
     let a = passed_not (ltb end (length xs)) g (fault.Pointer end) (Ok nothing) e in
@@ -56,7 +56,7 @@ none_read r xs at end g z e =
         parameters = [];
         absent = λ _. refl;
         named = tt;
-        carries = λ n k. sym (nothing_unmet r n refl k) ∙ ap (λ (x : Gathered Number). gathered_field x n) is;
+        carries = λ n k. sym (nothing_unmet r n refl k) ∙ ap (λ (x : Gathered). gathered_field x n) is;
       };
       pointer = z;
       octets = drop_all end xs (ltb-false end (length xs) a.0);
@@ -68,7 +68,7 @@ parts_read (Ok x) f y e = both (Ok x) f y e
 parts_read (Err g) f y e = no_answer g y e
 
 some_read :
-    (r : Row) (xs : List ℕ) (at end : ℕ) (g : Gathered Number) → cond (eqb (get_or xs at 0) (end - at)) (optional_from r xs end) (Err (fault.Pointer at)) ≡ Ok g →
+    (r : Row) (xs : List ℕ) (at end : ℕ) (g : Gathered) → cond (eqb (get_or xs at 0) (end - at)) (optional_from r xs end) (Err (fault.Pointer at)) ≡ Ok g →
     OptionalRead r xs at end g
 some_read r xs at end g e =
     let a = passed (eqb (get_or xs at 0) (end - at)) g (fault.Pointer at) (optional_from r xs end) e in
@@ -80,16 +80,16 @@ some_read r xs at end g e =
       octets = s.0;
     }
 
-optional_read : (r : Row) (xs : List ℕ) (at end : ℕ) (g : Gathered Number) → optional_in r xs at end ≡ Ok g → OptionalRead r xs at end g
+optional_read : (r : Row) (xs : List ℕ) (at end : ℕ) (g : Gathered) → optional_in r xs at end ≡ Ok g → OptionalRead r xs at end g
 optional_read r xs at end g e = by_number (get_or xs at 0) 0 _ _ g (none_read r xs at end g) (some_read r xs at end g) e
 
 -- what follows the fixed octets, from the first pointer on
-pub record BehindRead (r : Row) (xs : List ℕ) (at : ℕ) (v : Option (List ℕ)) (g : Gathered Number) : Type 0 where
+pub record BehindRead (r : Row) (xs : List ℕ) (at : ℕ) (v : Option (List ℕ)) (g : Gathered) : Type 0 where
   pub part : Carrier r g
   pub within : at < length xs
   pub octets : drop at xs ≡ behind v part.there part.parameters
 
-pub tail_read : (r : Row) (xs : List ℕ) (at : ℕ) (g : Gathered Number) → tail_in r xs at ≡ Ok g → BehindRead r xs at None g
+pub tail_read : (r : Row) (xs : List ℕ) (at : ℕ) (g : Gathered) → tail_in r xs at ≡ Ok g → BehindRead r xs at None g
 tail_read r xs at g e =
     let a = passed_not (leb (length xs) at) g (fault.Missing at) (optional_in r xs at (at + 1)) e in
     let o = optional_read r xs at (at + 1) g a.1 in
@@ -123,7 +123,7 @@ variable_read xs at v e =
     record { pointer = eqb-true (get_or xs at 0) 2 b.0; within = omega arith; octets = cc }
 
 pub with_variable :
-    (r : Row) (xs : List ℕ) (at : ℕ) (v w : List ℕ) (g : Gathered Number) → variable_in xs at ≡ Ok v → optional_in r xs (at + 1) (at + 3 + length v) ≡ Ok g → v ≡ w →
+    (r : Row) (xs : List ℕ) (at : ℕ) (v w : List ℕ) (g : Gathered) → variable_in xs at ≡ Ok v → optional_in r xs (at + 1) (at + 3 + length v) ≡ Ok g → v ≡ w →
     BehindRead r xs at (Some w) g
 with_variable r xs at v w g e f is =
     let t = variable_read xs at v e in

@@ -38,7 +38,7 @@ use Rattle.decode.proofs.CompleteValues.{cause_read, circuit_read}
 use Rattle.decode.proofs.CompleteOptional.{then_ok, Within, optional_read}
 
 -- what is gathered of the optional parts of each message
-abbrev redirection_gathered : Option (Redirection Number) → Gathered Number
+abbrev redirection_gathered : Option (Redirection Number) → Gathered
 redirection_gathered r = record {
   redirecting = option_map (λ x. x.redirecting) r;
   original = option_map (λ x. x.original) r;
@@ -50,7 +50,7 @@ redirection_gathered r = record {
   restriction = None;
 }
 
-abbrev backward_gathered : Bool → Option (Notice Number) → Option Restriction → Gathered Number
+abbrev backward_gathered : Bool → Option (Notice Number) → Option Restriction → Gathered
 backward_gathered may n r = record {
   redirecting = None;
   original = None;
@@ -63,7 +63,7 @@ backward_gathered may n r = record {
 }
 
 -- it stands under the names of the message's row, and nothing stands under the others
-record Fits (row : Row) (t : Gathered Number) (field : ℕ → List (List ℕ)) : Type 0 where
+record Fits (row : Row) (t : Gathered) (field : ℕ → List (List ℕ)) : Type 0 where
   pub within : Within row t
   pub fields : (n : ℕ) → has row n ≡ true → gathered_field t n ≡ field n
 
@@ -99,13 +99,13 @@ record Carried (row : Row) (field : ℕ → List (List ℕ)) (here : Bool) (qs :
   pub carries : (n : ℕ) → has row n ≡ true → contents n qs ≡ field n
 
 carried_read :
-    (row : Row) (t : Gathered Number) (field : ℕ → List (List ℕ)) (here : Bool) (qs : List Parameter) → Fits row t field → Carried row field here qs →
+    (row : Row) (t : Gathered) (field : ℕ → List (List ℕ)) (here : Bool) (qs : List Parameter) → Fits row t field → Carried row field here qs →
     (xs : List ℕ) (at end : ℕ) → at < end → get_or xs at 0 ≡ cond here (end - at) 0 → drop end xs ≡ optional_octets here qs → optional_in row xs at end ≡ Ok t
 carried_read row t field here qs f c xs at end lt p e =
     optional_read row t xs at end here qs lt p e c.absent c.named f.within (λ n k. c.carries n k ∙ sym (f.fields n k))
 
 tail_read :
-    (row : Row) (t : Gathered Number) (field : ℕ → List (List ℕ)) (here : Bool) (qs : List Parameter) → Fits row t field → Carried row field here qs →
+    (row : Row) (t : Gathered) (field : ℕ → List (List ℕ)) (here : Bool) (qs : List Parameter) → Fits row t field → Carried row field here qs →
     (xs : List ℕ) (at : ℕ) → at < length xs → get_or xs at 0 ≡ cond here (at + 1 - at) 0 → drop (at + 1) xs ≡ optional_octets here qs → tail_in row xs at ≡ Ok t
 tail_read row t field here qs f c xs at h p e =
     cond-false (leb (length xs) at) _ _ (let z : leb (length xs) at ≡ false = grind (arith, nat_tests) in z)

@@ -39,7 +39,7 @@ flag_there true d c e = (refl, (cc))
 flag_there false d c e = clash (sym e)
 
 -- what is gathered of t once these names were met
-abbrev only : List ℕ → Gathered Number → Gathered Number
+abbrev only : List ℕ → Gathered → Gathered
 only names t = record {
   redirecting = cond (member 0x0B names) t.redirecting None;
   original = cond (member 0x28 names) t.original None;
@@ -52,27 +52,27 @@ only names t = record {
 }
 
 -- the next parameter of a name, with the content that t calls for, brings t's value
-abbrev Brings : List ℕ → Gathered Number → List ℕ → ℕ → ℕ → Type 0
+abbrev Brings : List ℕ → Gathered → List ℕ → ℕ → ℕ → Type 0
 Brings names t c at n = gathered_field t n ≡ c ∷ [] → value_of (only names t) (record { name = n; content = c; place = at }) ≡ Ok (only (n ∷ names) t)
 
 number_read : (may : Bool) (p : Party Number) (c : List ℕ) (at : ℕ) → (p.restricted ≡ true → may ≡ true) → c ≡ content p → number_at at (read_number may c) ≡ Ok p
 number_read may p c at m e = ap (number_at at) (complete may c p (record { marked = m; same = e }))
 
-brings_0b : (names : List ℕ) (t : Gathered Number) (c : List ℕ) (at : ℕ) → Brings names t c at 0x0B
+brings_0b : (names : List ℕ) (t : Gathered) (c : List ℕ) (at : ℕ) → Brings names t c at 0x0B
 brings_0b names t c at e =
     let x = there content t.redirecting c e in
     let y = x.1.0 in
     then_ok (number_at at (read_number true c)) _ x.0 _ (number_read true x.0 c at (λ _. refl) x.1.1)
     (let z : Ok (with_redirecting (only names t) x.0) ≡ Ok (only (0x0B ∷ names) t) = cc in z)
 
-brings_28 : (names : List ℕ) (t : Gathered Number) (c : List ℕ) (at : ℕ) → Brings names t c at 0x28
+brings_28 : (names : List ℕ) (t : Gathered) (c : List ℕ) (at : ℕ) → Brings names t c at 0x28
 brings_28 names t c at e =
     let x = there content t.original c e in
     let y = x.1.0 in
     then_ok (number_at at (read_number true c)) _ x.0 _ (number_read true x.0 c at (λ _. refl) x.1.1)
     (let z : Ok (with_original (only names t) x.0) ≡ Ok (only (0x28 ∷ names) t) = cc in z)
 
-brings_0c : (names : List ℕ) (t : Gathered Number) (c : List ℕ) (at : ℕ) → Brings names t c at 0x0C
+brings_0c : (names : List ℕ) (t : Gathered) (c : List ℕ) (at : ℕ) → Brings names t c at 0x0C
 brings_0c names t c at e =
     let x = there plain t.redirection c e in
     let y = x.1.0 in
@@ -83,35 +83,35 @@ brings_0c names t c at e =
 value_read : {X : Type 0} (f : List ℕ → Option X) (g : X → List ℕ) → ((x : X) → f (g x) ≡ Some x) → (x : X) (c : List ℕ) (at : ℕ) → c ≡ g x → or_value_fault (f c) at ≡ Ok x
 value_read f g k x c at e = ap (λ o. or_value_fault o at) (ap f e ∙ k x)
 
-brings_13 : (names : List ℕ) (t : Gathered Number) (c : List ℕ) (at : ℕ) → Brings names t c at 0x13
+brings_13 : (names : List ℕ) (t : Gathered) (c : List ℕ) (at : ℕ) → Brings names t c at 0x13
 brings_13 names t c at e =
     let x = there information_octets t.information c e in
     let y = x.1.0 in
     then_ok (or_value_fault (information_in c) at) _ x.0 _ (value_read information_in information_octets information_read x.0 c at x.1.1)
     (let z : Ok (with_information (only names t) x.0) ≡ Ok (only (0x13 ∷ names) t) = cc in z)
 
-brings_36 : (names : List ℕ) (t : Gathered Number) (c : List ℕ) (at : ℕ) → Brings names t c at 0x36
+brings_36 : (names : List ℕ) (t : Gathered) (c : List ℕ) (at : ℕ) → Brings names t c at 0x36
 brings_36 names t c at e =
     let x = there diversion_octets t.diversion c e in
     let y = x.1.0 in
     then_ok (or_value_fault (diversion_in c) at) _ x.0 _ (value_read diversion_in diversion_octets diversion_read x.0 c at x.1.1)
     (let z : Ok (with_diversion (only names t) x.0) ≡ Ok (only (0x36 ∷ names) t) = cc in z)
 
-brings_40 : (names : List ℕ) (t : Gathered Number) (c : List ℕ) (at : ℕ) → Brings names t c at 0x40
+brings_40 : (names : List ℕ) (t : Gathered) (c : List ℕ) (at : ℕ) → Brings names t c at 0x40
 brings_40 names t c at e =
     let x = there restriction_octets t.restriction c e in
     let y = x.1.0 in
     then_ok (or_value_fault (restriction_in c) at) _ x.0 _ (value_read restriction_in restriction_octets restriction_read x.0 c at x.1.1)
     (let z : Ok (with_restriction (only names t) x.0) ≡ Ok (only (0x40 ∷ names) t) = cc in z)
 
-brings_29 : (names : List ℕ) (t : Gathered Number) (c : List ℕ) (at : ℕ) → Brings names t c at 0x29
+brings_29 : (names : List ℕ) (t : Gathered) (c : List ℕ) (at : ℕ) → Brings names t c at 0x29
 brings_29 names t c at e =
     let x = flag_there t.may_divert (0x02 ∷ []) c e in
     let y = x.0 in
     ap (λ (l : List ℕ). octet_at at l 0x02 (with_may_divert (only names t))) x.1
     ∙ (let z : Ok (with_may_divert (only names t)) ≡ Ok (only (0x29 ∷ names) t) = cc in z)
 
-brings_2c : (names : List ℕ) (t : Gathered Number) (c : List ℕ) (at : ℕ) → Brings names t c at 0x2C
+brings_2c : (names : List ℕ) (t : Gathered) (c : List ℕ) (at : ℕ) → Brings names t c at 0x2C
 brings_2c names t c at e =
     let x = flag_there t.announced (0xFB ∷ []) c e in
     let y = x.0 in
@@ -119,7 +119,7 @@ brings_2c names t c at e =
     ∙ (let z : Ok (with_announced (only names t)) ≡ Ok (only (0x2C ∷ names) t) = cc in z)
 
 -- a name under which something stands is one of the eight
-brings : (names : List ℕ) (t : Gathered Number) (c : List ℕ) (at n : ℕ) → Brings names t c at n
+brings : (names : List ℕ) (t : Gathered) (c : List ℕ) (at n : ℕ) → Brings names t c at n
 brings names t c at n =
     at_name 0x0B (brings_0b names t c at) (λ n0.
     at_name 0x28 (brings_28 names t c at) (λ n1.
@@ -143,7 +143,7 @@ cond_once : {A : Type 0} (b : Bool) (x y : List A) → length x ≤ 1 → length
 cond_once true x y h k = h
 cond_once false x y h k = k
 
-once : (t : Gathered Number) (n : ℕ) → length (gathered_field t n) ≤ 1
+once : (t : Gathered) (n : ℕ) → length (gathered_field t n) ≤ 1
 once t n =
     cond_once (eqb n 0x0B) _ _ (there_once content t.redirecting)
     (cond_once (eqb n 0x28) _ _ (there_once content t.original)
@@ -169,7 +169,7 @@ flag_kept true d c h = refl
 flag_kept false true c h = clash (h refl)
 flag_kept false false c h = refl
 
-all_met : (names : List ℕ) (t : Gathered Number) → ((n : ℕ) → member n names ≡ false → gathered_field t n ≡ []) → only names t ≡ t
+all_met : (names : List ℕ) (t : Gathered) → ((n : ℕ) → member n names ≡ false → gathered_field t n ≡ []) → only names t ≡ t
 all_met names t h =
     let a = kept (member 0x0B names) content t.redirecting (h 0x0B) in
     let b = kept (member 0x28 names) content t.original (h 0x28) in
@@ -191,11 +191,11 @@ all_met names t h =
     } = cc in z)
 
 -- nothing stands under the names that the row has not
-abbrev pub Within : Row → Gathered Number → Type 0
+abbrev pub Within : Row → Gathered → Type 0
 Within row t = (n : ℕ) → has row n ≡ false → gathered_field t n ≡ []
 
 -- what is left carries what t has under the names not yet met, and nothing under the others
-abbrev Left : Row → List ℕ → Gathered Number → List Parameter → Type 0
+abbrev Left : Row → List ℕ → Gathered → List Parameter → Type 0
 Left row names t qs = (n : ℕ) → has row n ≡ true → contents n qs ≡ cond (member n names) [] (gathered_field t n)
 
 other : (row : Row) (n m : ℕ) → has row n ≡ true → has row m ≡ false → eqb n m ≡ false
@@ -204,12 +204,12 @@ other row n m k f =
     [ inl p ↦ (let z : true ≡ false = sym k ∙ ap (has row) p.1 ∙ f in let y : ◌≡◌ {A = ℕ} 0 1 = cc in absurd (omega arith)) | inr p ↦ p.0 ]
 
 -- the first parameter, where its name is the row's, is the only one of its name and brings what t has there
-record First (row : Row) (names : List ℕ) (t : Gathered Number) (q : Parameter) (qs : List Parameter) : Type 0 where
+record First (row : Row) (names : List ℕ) (t : Gathered) (q : Parameter) (qs : List Parameter) : Type 0 where
   pub new : member q.0 names ≡ false
   pub here : gathered_field t q.0 ≡ q.1 ∷ []
   pub left : Left row (q.0 ∷ names) t qs
 
-first : (row : Row) (names : List ℕ) (t : Gathered Number) (q : Parameter) (qs : List Parameter) → has row q.0 ≡ true → Left row names t (q ∷ qs) → First row names t q qs
+first : (row : Row) (names : List ℕ) (t : Gathered) (q : Parameter) (qs : List Parameter) → has row q.0 ≡ true → Left row names t (q ∷ qs) → First row names t q qs
 first row names t q qs k h =
     let a : q.1 ∷ contents q.0 qs ≡ cond (member q.0 names) [] (gathered_field t q.0) =
     sym (cond-true (eqb q.0 q.0) _ _ (eq-eqb q.0 q.0 refl)) ∙ h q.0 k in
@@ -229,15 +229,15 @@ first row names t q qs k h =
     ]
 
 -- so the walk over the parameters meets no name twice and gathers t
-record Gathers (row : Row) (names : List ℕ) (t : Gathered Number) (ps : List Part) : Type 0 where
+record Gathers (row : Row) (names : List ℕ) (t : Gathered) (ps : List Part) : Type 0 where
   pub unrepeated : repeated row names ps ≡ None
   pub gathered : collected row (only names t) ps ≡ Ok t
 
-gathers : (row : Row) (names : List ℕ) (t : Gathered Number) (at : ℕ) (qs : List Parameter) → Within row t → Left row names t qs → Gathers row names t (placed_from at qs)
+gathers : (row : Row) (names : List ℕ) (t : Gathered) (at : ℕ) (qs : List Parameter) → Within row t → Left row names t qs → Gathers row names t (placed_from at qs)
 gathers row names t at [] w h =
     record {
       unrepeated = refl;
-      gathered = ap (λ (g : Gathered Number). Ok g) (all_met names t (λ n m. elim (cases_Bool (has row n))
+      gathered = ap (λ (g : Gathered). Ok g) (all_met names t (λ n m. elim (cases_Bool (has row n))
           [ inl k ↦ sym (h n k ∙ cond-false (member n names) _ _ m) | inr k ↦ w n k ]));
     }
 gathers row names t at (q ∷ qs) w h =
@@ -264,13 +264,13 @@ few_parameters [] = omega arith
 few_parameters (q ∷ qs) = let l = few_parameters qs in let a = length-append q.1 (encoded qs) in omega arith
 
 abbrev Out : Type 0
-Out = Result (Gathered Number) MessageFault
+Out = Result (Gathered) MessageFault
 
 abbrev after_parts : Row → Result (List Part) MessageFault → Out
 after_parts row r = elim r as (λ _. Out) [ Ok ps ↦ unless_repeated (repeated row [] ps) (collected row nothing ps) | Err f ↦ Err f ]
 
 part_read :
-    (row : Row) (t : Gathered Number) (xs : List ℕ) (at : ℕ) (qs : List Parameter) → drop at xs ≡ encoded qs ++ (0 ∷ []) → Named qs → Within row t →
+    (row : Row) (t : Gathered) (xs : List ℕ) (at : ℕ) (qs : List Parameter) → drop at xs ≡ encoded qs ++ (0 ∷ []) → Named qs → Within row t →
     ((n : ℕ) → has row n ≡ true → contents n qs ≡ gathered_field t n) → optional_from row xs at ≡ Ok t
 part_read row t xs at qs e o w h =
     let l = few_parameters qs in
@@ -283,7 +283,7 @@ part_read row t xs at qs e o w h =
 
 -- the optional part, or none, as its pointer says
 pub optional_read :
-    (row : Row) (t : Gathered Number) (xs : List ℕ) (at end : ℕ) (here : Bool) (qs : List Parameter) → at < end → get_or xs at 0 ≡ cond here (end - at) 0 →
+    (row : Row) (t : Gathered) (xs : List ℕ) (at end : ℕ) (here : Bool) (qs : List Parameter) → at < end → get_or xs at 0 ≡ cond here (end - at) 0 →
     drop end xs ≡ optional_octets here qs → (here ≡ false → qs ≡ []) → Named qs → Within row t →
     ((n : ℕ) → has row n ≡ true → contents n qs ≡ gathered_field t n) → optional_in row xs at end ≡ Ok t
 optional_read row t xs at end true qs lt p e b o w h =

@@ -5,7 +5,7 @@ use Rattle.numbers.specs.Digits.{content, plain}
 use Rattle.isup.specs.Coding.{if_there, information_octets, diversion_octets, restriction_octets}
 use Rattle.decode.specs.declared.optional.Gathered.{Gathered}
 
-abbrev pub gathered_field : Gathered Number → ℕ → List (List ℕ)
+abbrev pub gathered_field : Gathered → ℕ → List (List ℕ)
 gathered_field g n =
     cond (eqb n 0x0B) (if_there content g.redirecting)
     (cond (eqb n 0x28) (if_there content g.original)

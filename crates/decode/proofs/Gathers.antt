@@ -23,12 +23,12 @@ use Rattle.decode.proofs.Parts.{without_places}
 use Rattle.decode.proofs.Fields.{gathered_field}
 
 -- a content stands under a name, and what stands under the others is as before
-abbrev Placed : Gathered Number → ℕ → List ℕ → Gathered Number → Type 0
+abbrev Placed : Gathered → ℕ → List ℕ → Gathered → Type 0
 Placed g n c h = (m : ℕ) → gathered_field h m ≡ cond (eqb m n) (c ∷ []) (gathered_field g m)
 
 -- a value that is read and kept
 placed :
-    {X : Type 0} (g h : Gathered Number) (n : ℕ) (c : List ℕ) (octets : X → List ℕ) (with : X → Gathered Number) (r : Result X MessageFault) →
+    {X : Type 0} (g h : Gathered) (n : ℕ) (c : List ℕ) (octets : X → List ℕ) (with : X → Gathered) (r : Result X MessageFault) →
     ((x : X) → r ≡ Ok x → c ≡ octets x) → ((x : X) → Placed g n (octets x) (with x)) → then r (λ x. Ok (with x)) ≡ Ok h → Placed g n c h
 placed g h n c octets with r from puts e =
     let b = both r (λ x. Ok (with x)) h e in
@@ -36,17 +36,17 @@ placed g h n c octets with r from puts e =
     subst (Placed g n c) is (subst (λ (l : List ℕ). Placed g n l (with b.value)) (sym (from b.value b.first)) (puts b.value))
 
 placed_octet :
-    (g h k : Gathered Number) (n octet place : ℕ) (c : List ℕ) → Placed g n (octet ∷ []) k → octet_at place c octet k ≡ Ok h → Placed g n c h
+    (g h k : Gathered) (n octet place : ℕ) (c : List ℕ) → Placed g n (octet ∷ []) k → octet_at place c octet k ≡ Ok h → Placed g n c h
 placed_octet g h k n octet place c put e =
     let p = passed (is_octet c octet) h (fault.Value place None) (Ok k) e in
     let is : k ≡ h = cc p.1 in
     subst (Placed g n c) is (subst (λ (l : List ℕ). Placed g n l k) (sym (lone_octet c octet p.0)) put)
 
 -- the value of a name is its content, placed under it
-abbrev ValuePlaced : Gathered Number → Gathered Number → List ℕ → ℕ → ℕ → Type 0
+abbrev ValuePlaced : Gathered → Gathered → List ℕ → ℕ → ℕ → Type 0
 ValuePlaced g h c place n = value_of g (record { name = n; content = c; place = place }) ≡ Ok h → Placed g n c h
 
-value_placed : (g h : Gathered Number) (c : List ℕ) (place n : ℕ) → known n ≡ true → ValuePlaced g h c place n
+value_placed : (g h : Gathered) (c : List ℕ) (place n : ℕ) → known n ≡ true → ValuePlaced g h c place n
 value_placed g h c place n k =
     let P = ValuePlaced g h c place in
     by_name P n 0x0B (placed g h 0x0B c content (with_redirecting g) _ (content_octets c place) (λ x m. grind (arith, nat_tests))) (λ n0b.
@@ -75,14 +75,14 @@ other row n m k f =
     [ inl t ↦ never (sym k ∙ ap (has row) t.1 ∙ f) | inr t ↦ t.0 ]
 
 -- nothing stands under the names of the row that are not met yet
-abbrev Unmet : Row → List ℕ → Gathered Number → Type 0
+abbrev Unmet : Row → List ℕ → Gathered → Type 0
 Unmet row met g = (n : ℕ) → member n met ≡ false → has row n ≡ true → gathered_field g n ≡ []
 
 pub nothing_unmet : (row : Row) → Unmet row [] nothing
 nothing_unmet row n m k = grind (arith, nat_tests)
 
 one_more :
-    (row : Row) (met : List ℕ) (g h : Gathered Number) (p : Part) (rest : List (List ℕ)) (n : ℕ) → Placed g p.name p.content h → member p.name met ≡ false → Unmet row met g →
+    (row : Row) (met : List ℕ) (g h : Gathered) (p : Part) (rest : List (List ℕ)) (n : ℕ) → Placed g p.name p.content h → member p.name met ≡ false → Unmet row met g →
     has row n ≡ true → gathered_field h n ++ rest ≡ gathered_field g n ++ cond (eqb n p.name) (p.content ∷ rest) rest
 one_more row met g h p rest n put new empty k =
     elim (eqb_tells n p.name) [
@@ -91,11 +91,11 @@ one_more row met g h p rest n put new empty k =
     ]
 
 gathers :
-    (row : Row) (met : List ℕ) (g h : Gathered Number) (ps : List Part) → repeated row met ps ≡ None → collected row g ps ≡ Ok h → Unmet row met g →
+    (row : Row) (met : List ℕ) (g h : Gathered) (ps : List Part) → repeated row met ps ≡ None → collected row g ps ≡ Ok h → Unmet row met g →
     (n : ℕ) → has row n ≡ true → gathered_field h n ≡ gathered_field g n ++ contents n (without_places ps)
 gathers row met g h [] r e empty n k =
     let is : h ≡ g = cc in
-    ap (λ (x : Gathered Number). gathered_field x n) is ∙ sym (append-nil (gathered_field g n))
+    ap (λ (x : Gathered). gathered_field x n) is ∙ sym (append-nil (gathered_field g n))
 gathers row met g h (p ∷ ps) r e empty n k =
     elim (cases_Bool (has row p.name)) [
       | inl t ↦
@@ -113,13 +113,13 @@ gathers row met g h (p ∷ ps) r e empty n k =
 
 -- what was gathered without a name met again is what the parameters carry
 pub carried :
-    (row : Row) (h : Gathered Number) (ps : List Part) → unless_repeated (repeated row [] ps) (collected row nothing ps) ≡ Ok h →
+    (row : Row) (h : Gathered) (ps : List Part) → unless_repeated (repeated row [] ps) (collected row nothing ps) ≡ Ok h →
     (n : ℕ) → has row n ≡ true → contents n (without_places ps) ≡ gathered_field h n
 carried row h ps e n k =
     let u = once (repeated row [] ps) (collected row nothing ps) e in
     sym (gathers row [] nothing h ps u.0 u.1 (nothing_unmet row) n k
     ∙ ap (λ (l : List (List ℕ)). l ++ contents n (without_places ps)) (nothing_unmet row n refl k))
   where
-    once : (o : Option ℕ) (r : Result (Gathered Number) MessageFault) → unless_repeated o r ≡ Ok h → (o ≡ None) × (r ≡ Ok h)
+    once : (o : Option ℕ) (r : Result (Gathered) MessageFault) → unless_repeated o r ≡ Ok h → (o ≡ None) × (r ≡ Ok h)
     once None r e = (refl, e)
     once (Some place) r e = no_answer _ h e

@@ -53,7 +53,7 @@ all_or_none_lem f P all none None None None n d e = let is : None ≡ d = cc in 
 
 -- what stands under the names of a row is what the message calls for
 redirection_fields :
-    (g : Gathered Number) (len : ℕ) (r : Option (Redirection Number)) → redirection_in g len ≡ Ok r →
+    (g : Gathered) (len : ℕ) (r : Option (Redirection Number)) → redirection_in g len ≡ Ok r →
     (n : ℕ) → has row.Initial n ≡ true → gathered_field g n ≡ redirection_field r n
 redirection_fields g len r e n k =
     let same =
@@ -70,7 +70,7 @@ announced true = refl
 announced false = refl
 
 backward_fields :
-    (g : Gathered Number) (len : ℕ) (m : Option (Notice Number)) → notice_in g len ≡ Ok m → (n : ℕ) → has row.Backward n ≡ true →
+    (g : Gathered) (len : ℕ) (m : Option (Notice Number)) → notice_in g len ≡ Ok m → (n : ℕ) → has row.Backward n ≡ true →
     gathered_field g n ≡ backward_field (record { may_divert = g.may_divert; notice = m; restriction = g.restriction }) n
 backward_fields g len m e n k =
     let same =
@@ -83,12 +83,12 @@ backward_fields g len m e n k =
     by_name P n 0x29 refl (λ n29. by_name P n 0x2C (sym (announced g.announced) ∙ same.0) (λ n2c. by_name P n 0x36 same.1 (λ n36.
     by_name P n 0x0C same.2 (λ n0c. by_name P n 0x40 refl (λ n40. absurd (grind (arith, nat_tests)))))))
 
-connected_fields : (g : Gathered Number) (n : ℕ) → has row.Connected n ≡ true → gathered_field g n ≡ if_there restriction_octets g.restriction
+connected_fields : (g : Gathered) (n : ℕ) → has row.Connected n ≡ true → gathered_field g n ≡ if_there restriction_octets g.restriction
 connected_fields g n k = ap (gathered_field g) (eqb-true n 0x40 k)
 
 -- a message that was read, without its circuit
 record MessageRead (xs : List ℕ) (m : Message Number) : Type 0 where
-  pub gathered : Gathered Number
+  pub gathered : Gathered
   pub head : octets_from (length (head_of m)) 2 xs ≡ head_of m
   pub fields : (n : ℕ) → has (row_of m) n ≡ true → gathered_field gathered n ≡ field_of m n
   pub rest : BehindRead (row_of m) xs (2 + length (head_of m)) (variable_of m) gathered
@@ -126,7 +126,7 @@ initial_address xs m kind e =
 
 -- the optional part of an address complete or a call progress
 record BackwardRead (xs : List ℕ) (at : ℕ) (b : Backward Number) : Type 0 where
-  pub gathered : Gathered Number
+  pub gathered : Gathered
   pub fields : (n : ℕ) → has row.Backward n ≡ true → gathered_field gathered n ≡ backward_field b n
   pub rest : BehindRead row.Backward xs at None gathered
 

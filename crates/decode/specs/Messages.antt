@@ -38,13 +38,13 @@ variable_in xs at =
     (Err (fault.Pointer at)))
 
 -- the optional part, or none, by the pointer at a place and the end of the mandatory part, which it follows at once
-abbrev pub optional_in : Row → List ℕ → ℕ → ℕ → Result (Gathered Number) MessageFault
+abbrev pub optional_in : Row → List ℕ → ℕ → ℕ → Result (Gathered) MessageFault
 optional_in r xs at end =
     cond (slice_index xs at == 0) (cond (nat_lt end (length xs)) (Err (fault.Pointer end)) (Ok nothing))
     (cond (slice_index xs at == end - at) (optional_from r xs end) (Err (fault.Pointer at)))
 
 -- the same in a message without a variable field, where the pointer ends the mandatory part
-abbrev pub tail_in : Row → List ℕ → ℕ → Result (Gathered Number) MessageFault
+abbrev pub tail_in : Row → List ℕ → ℕ → Result (Gathered) MessageFault
 tail_in r xs at = cond (nat_le (length xs) at) (Err (fault.Missing at)) (optional_in r xs at (at + 1))
 
 -- three parts that stand all or none; n is the length of the message
@@ -56,13 +56,13 @@ all_or_none f None (Some b) c n = Err (fault.Group n)
 all_or_none f None None (Some c) n = Err (fault.Group n)
 all_or_none f None None None n = Ok None
 
-abbrev pub redirection_in : Gathered Number → ℕ → Result (Option (Redirection Number)) MessageFault
+abbrev pub redirection_in : Gathered → ℕ → Result (Option (Redirection Number)) MessageFault
 redirection_in g n = all_or_none (λ a b i. record { redirecting = a; original = b; information = i }) g.redirecting g.original g.information n
 
 abbrev pub if_announced : Bool → Option (Unit {0})
 if_announced b = cond b (Some tt) None
 
-abbrev pub notice_in : Gathered Number → ℕ → Result (Option (Notice Number)) MessageFault
+abbrev pub notice_in : Gathered → ℕ → Result (Option (Notice Number)) MessageFault
 notice_in g n = all_or_none (λ _ d m. record { information = d; number = m }) (if_announced g.announced) g.diversion g.redirection n
 
 abbrev pub service_in : List ℕ → Result Service MessageFault

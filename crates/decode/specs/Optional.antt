@@ -27,7 +27,7 @@ repeated row met [] = None
 repeated row met (p ∷ ps) =
     cond (has row p.name) (cond (member p.name met) (Some p.place) (repeated row (p.name ∷ met) ps)) (repeated row met ps)
 
-abbrev pub nothing : Gathered Number
+abbrev pub nothing : Gathered
 nothing = record {
   redirecting = None;
   original = None;
@@ -45,36 +45,36 @@ number_at place (Ok p) = Ok p.0
 number_at place (Err f) = Err (fault.Value place (Some f))
 
 -- what is gathered, with one field set
-abbrev pub with_redirecting : Gathered Number → Party Number → Gathered Number
+abbrev pub with_redirecting : Gathered → Party Number → Gathered
 with_redirecting g x = record { redirecting = Some x; original = g.original; information = g.information; may_divert = g.may_divert; announced = g.announced; diversion = g.diversion; redirection = g.redirection; restriction = g.restriction }
 
-abbrev pub with_original : Gathered Number → Party Number → Gathered Number
+abbrev pub with_original : Gathered → Party Number → Gathered
 with_original g x = record { redirecting = g.redirecting; original = Some x; information = g.information; may_divert = g.may_divert; announced = g.announced; diversion = g.diversion; redirection = g.redirection; restriction = g.restriction }
 
-abbrev pub with_information : Gathered Number → RedirectionInformation → Gathered Number
+abbrev pub with_information : Gathered → RedirectionInformation → Gathered
 with_information g x = record { redirecting = g.redirecting; original = g.original; information = Some x; may_divert = g.may_divert; announced = g.announced; diversion = g.diversion; redirection = g.redirection; restriction = g.restriction }
 
-abbrev pub with_may_divert : Gathered Number → Gathered Number
+abbrev pub with_may_divert : Gathered → Gathered
 with_may_divert g = record { redirecting = g.redirecting; original = g.original; information = g.information; may_divert = true; announced = g.announced; diversion = g.diversion; redirection = g.redirection; restriction = g.restriction }
 
-abbrev pub with_announced : Gathered Number → Gathered Number
+abbrev pub with_announced : Gathered → Gathered
 with_announced g = record { redirecting = g.redirecting; original = g.original; information = g.information; may_divert = g.may_divert; announced = true; diversion = g.diversion; redirection = g.redirection; restriction = g.restriction }
 
-abbrev pub with_diversion : Gathered Number → DiversionInformation → Gathered Number
+abbrev pub with_diversion : Gathered → DiversionInformation → Gathered
 with_diversion g x = record { redirecting = g.redirecting; original = g.original; information = g.information; may_divert = g.may_divert; announced = g.announced; diversion = Some x; redirection = g.redirection; restriction = g.restriction }
 
-abbrev pub with_redirection : Gathered Number → Party Number → Gathered Number
+abbrev pub with_redirection : Gathered → Party Number → Gathered
 with_redirection g x = record { redirecting = g.redirecting; original = g.original; information = g.information; may_divert = g.may_divert; announced = g.announced; diversion = g.diversion; redirection = Some x.number; restriction = g.restriction }
 
-abbrev pub with_restriction : Gathered Number → Restriction → Gathered Number
+abbrev pub with_restriction : Gathered → Restriction → Gathered
 with_restriction g x = record { redirecting = g.redirecting; original = g.original; information = g.information; may_divert = g.may_divert; announced = g.announced; diversion = g.diversion; redirection = g.redirection; restriction = Some x }
 
 -- a content that can be but one octet
-abbrev pub octet_at : ℕ → List ℕ → ℕ → Gathered Number → Result (Gathered Number) MessageFault
+abbrev pub octet_at : ℕ → List ℕ → ℕ → Gathered → Result (Gathered) MessageFault
 octet_at place c n g = cond (is_octet c n) (Ok g) (Err (fault.Value place None))
 
 -- the value of one parameter, beside those of others: only redirecting and original called numbers may be restricted
-abbrev pub value_of : Gathered Number → Part → Result (Gathered Number) MessageFault
+abbrev pub value_of : Gathered → Part → Result (Gathered) MessageFault
 value_of g p =
     cond (p.name == 0x0B) (then (number_at p.place (read_number true p.content)) (λ x. Ok (with_redirecting g x)))
     (cond (p.name == 0x28) (then (number_at p.place (read_number true p.content)) (λ x. Ok (with_original g x)))
@@ -87,15 +87,15 @@ value_of g p =
     (Ok g))))))))
 
 -- the values of the row's parameters in their order, or the first fault; other names are passed over
-abbrev pub collected : Row → Gathered Number → List Part → Result (Gathered Number) MessageFault
+abbrev pub collected : Row → Gathered → List Part → Result (Gathered) MessageFault
 collected row g [] = Ok g
 collected row g (p ∷ ps) = cond (has row p.name) (then (value_of g p) (λ h. collected row h ps)) (collected row g ps)
 
-abbrev pub unless_repeated : Option ℕ → Result (Gathered Number) MessageFault → Result (Gathered Number) MessageFault
+abbrev pub unless_repeated : Option ℕ → Result (Gathered) MessageFault → Result (Gathered) MessageFault
 unless_repeated (Some place) r = Err (fault.Repeated place)
 unless_repeated None r = r
 
-abbrev pub optional_from : Row → List ℕ → ℕ → Result (Gathered Number) MessageFault
+abbrev pub optional_from : Row → List ℕ → ℕ → Result (Gathered) MessageFault
 optional_from row octets at =
     elim (parts_at octets at) [
       | Ok ps ↦ unless_repeated (repeated row [] ps) (collected row nothing ps)
@@ -103,27 +103,27 @@ optional_from row octets at =
     ]
 
 -- The same by one walk: values up to the first fault among them, and the place of the first name met again.
-abbrev pub start : Walk Number
+abbrev pub start : Walk
 start = record { gathered = nothing; fault = None; again = None }
 
-abbrev pub keep_of : Walk Number → Result (Gathered Number) MessageFault → Walk Number
+abbrev pub keep_of : Walk → Result (Gathered) MessageFault → Walk
 keep_of s (Ok g) = record { gathered = g; fault = s.fault; again = s.again }
 keep_of s (Err f) = record { gathered = s.gathered; fault = Some f; again = s.again }
 
-abbrev pub took_of : Walk Number → Part → Walk Number
+abbrev pub took_of : Walk → Part → Walk
 took_of s p = elim s.fault [ Some f ↦ s | None ↦ keep_of s (value_of s.gathered p) ]
 
-abbrev pub again_of : Walk Number → ℕ → Walk Number
+abbrev pub again_of : Walk → ℕ → Walk
 again_of s place = elim s.again [ Some q ↦ s | None ↦ record { gathered = s.gathered; fault = s.fault; again = Some place } ]
 
-abbrev pub add_of : Walk Number → Part → Bool → Walk Number
+abbrev pub add_of : Walk → Part → Bool → Walk
 add_of s p met = cond met (again_of s p.place) (took_of s p)
 
-abbrev pub walk_after : Row → List Bool → Walk Number → Part → Walk Number
+abbrev pub walk_after : Row → List Bool → Walk → Part → Walk
 walk_after row met s p = cond (has row p.name) (add_of s p (slice_index_or met p.name false)) s
 
 abbrev pub met_after : Row → List Bool → Part → List Bool
 met_after row met p = cond (has row p.name) (slice_set met p.name true) met
 
-abbrev pub end_of : Walk Number → Result (Gathered Number) MessageFault
+abbrev pub end_of : Walk → Result (Gathered) MessageFault
 end_of s = elim s.again [ Some place ↦ Err (fault.Repeated place) | None ↦ elim s.fault [ Some f ↦ Err f | None ↦ Ok s.gathered ] ]

@@ -13,27 +13,27 @@ use numbers::number::reading::read_number;
 use numbers::number::{Number, Party};
 
 // The values of the parameters.
-#[derive(Clone, Copy)]
-pub(crate) struct Gathered<N> {
-    pub redirecting: Option<Party<N>>,
-    pub original: Option<Party<N>>,
+#[derive(Clone, Copy, Default)]
+pub(crate) struct Gathered {
+    pub redirecting: Option<Party<Number>>,
+    pub original: Option<Party<Number>>,
     pub information: Option<RedirectionInformation>,
     pub may_divert: bool,
     pub announced: bool,
     pub diversion: Option<DiversionInformation>,
-    pub redirection: Option<N>,
+    pub redirection: Option<Number>,
     pub restriction: Option<Restriction>,
 }
 
 // What one walk over the parameters has come to: their values up to the first fault among them, and the first name met again.
-#[derive(Clone, Copy)]
-pub(crate) struct Walk<N> {
-    pub gathered: Gathered<N>,
+#[derive(Clone, Copy, Default)]
+pub(crate) struct Walk {
+    pub gathered: Gathered,
     pub fault: Option<MessageFault>,
     pub again: Option<usize>,
 }
 
-impl Gathered<Number> {
+impl Gathered {
     // Takes the value of one parameter beside those of others; a fault changes nothing.
     #[inline(never)]
     fn gather(&mut self, p: OptionalParameter) -> Result<(), MessageFault>
@@ -81,17 +81,7 @@ impl Gathered<Number> {
     }
 }
 
-impl Walk<Number> {
-    fn new() -> Walk<Number>
-        ensures { result ≡ start }
-    {
-        Walk {
-            gathered: nothing(),
-            fault: None,
-            again: None,
-        }
-    }
-
+impl Walk {
     // Goes over one parameter more of the row, told whether its name was met before.
     fn add(&mut self, p: OptionalParameter, met: bool)
         requires { InItsCase p }
@@ -105,7 +95,7 @@ impl Walk<Number> {
     }
 
     // What the walk found: a name met again comes before a fault of a value.
-    fn end(self) -> Result<Gathered<Number>, MessageFault>
+    fn end(self) -> Result<Gathered, MessageFault>
         ensures { result ≡ end_of self }
     {
         match (self.again, self.fault) {
@@ -129,33 +119,18 @@ pub(crate) fn party(
     Ok(party)
 }
 
-pub(crate) fn nothing() -> Gathered<Number>
-    ensures { result ≡ nothing }
-{
-    Gathered {
-        redirecting: None,
-        original: None,
-        information: None,
-        may_divert: false,
-        announced: false,
-        diversion: None,
-        redirection: None,
-        restriction: None,
-    }
-}
-
 // Reads the optional part from a place on in one walk: faults of its structure come first, then names met again, then values.
 pub(crate) fn read_optional(
     row: Row,
     octets: &[u8],
     place: usize,
-) -> Result<Gathered<Number>, MessageFault>
+) -> Result<Gathered, MessageFault>
     requires { place ≤ length octets.now }
     ensures { result ≡ optional_from row octets.now place }
 {
     let mut part = OptionalPart::new(octets, place);
     let mut met = [false; 256];
-    let mut walk = Walk::new();
+    let mut walk = Walk::default();
     while let Some(p) = part.next()? {
         let name = p.name();
         if row.has(name) {

@@ -4,7 +4,7 @@ ghost use Rattle.decode.specs.Messages.{octet_in, exact_in, variable_in, optiona
 ghost use Rattle.decode.specs.Reading.{ReadAsCoded, EveryCodingIsRead, OnlyCodingsAreRead, OneMessageToACoding};
 
 use crate::fault::MessageFault;
-use crate::optional::{Gathered, nothing, party, read_optional};
+use crate::optional::{Gathered, party, read_optional};
 use crate::values::cause;
 use isup::message::{Backward, Circuit, Event, LineStatus, Message, Notice, Redirection, Service};
 use isup::row::Row;
@@ -60,7 +60,7 @@ fn optional(
     octets: &[u8],
     at: usize,
     end: usize,
-) -> Result<Gathered<Number>, MessageFault>
+) -> Result<Gathered, MessageFault>
     requires { (at < end) × (end ≤ length octets.now) }
     ensures { result ≡ optional_in row octets.now at end }
 {
@@ -69,7 +69,7 @@ fn optional(
         if end < octets.len() {
             return Err(MessageFault::Pointer(end));
         }
-        return Ok(nothing());
+        return Ok(Gathered::default());
     }
     if pointer != end - at {
         return Err(MessageFault::Pointer(at));
@@ -78,7 +78,7 @@ fn optional(
 }
 
 // The optional part of a message without a variable field.
-fn tail(row: Row, octets: &[u8], at: usize) -> Result<Gathered<Number>, MessageFault>
+fn tail(row: Row, octets: &[u8], at: usize) -> Result<Gathered, MessageFault>
     ensures { result ≡ tail_in row octets.now at }
 {
     if at >= octets.len() {
@@ -89,7 +89,7 @@ fn tail(row: Row, octets: &[u8], at: usize) -> Result<Gathered<Number>, MessageF
 
 // 0B, 28 and 13: all or none.
 fn redirection(
-    g: &Gathered<Number>,
+    g: &Gathered,
     length: usize,
 ) -> Result<Option<Redirection<Number>>, MessageFault>
     ensures { result ≡ redirection_in g.now length }
@@ -106,7 +106,7 @@ fn redirection(
 }
 
 // 2C, 36 and 0C: all or none.
-fn notice(g: &Gathered<Number>, length: usize) -> Result<Option<Notice<Number>>, MessageFault>
+fn notice(g: &Gathered, length: usize) -> Result<Option<Notice<Number>>, MessageFault>
     ensures { result ≡ notice_in g.now length }
 {
     match (g.announced, g.diversion, g.redirection) {

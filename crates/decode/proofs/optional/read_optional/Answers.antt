@@ -2,11 +2,14 @@ use Rattle.std.proofs.Common.{◌≡◌, length, refl, ap, ◌∙◌, rules, sub
 use Rattle.std.proofs.lemmas.Result.{err_from_is_err_and}
 use Rattle.std.proofs.lemmas.List.{length-set}
 use Rattle.decode.specs.Parameters.{part_of}
+use Rattle.decode.specs.Optional.{start}
 use Rattle.decode.proofs.Walks.{begins, ahead_then, ahead_else, stops, fails}
 use Rattle.decode.proofs.optional.read_optional.Goals as goal
 
 pub loop-p-init : goal.loop-p-init
-loop-p-init c = record { within = search rules; same = search rules; flags = refl; comes = rw (c.new-walk.ensures, c.new-part.ensures.1) (begins c.args.row c.args.octets.now c.args.place) }
+loop-p-init c =
+    let w : c.default-walk.result ≡ start = search rules in
+    record { within = search rules; same = search rules; flags = refl; comes = rw (w, c.new-part.ensures.1) (begins c.args.row c.args.octets.now c.args.place) }
 
 pub loop-p-preserved-then-has : goal.loop-p-preserved-then-has
 loop-p-preserved-then-has c =
