@@ -75,9 +75,12 @@ initial_address_in xs =
     then (service_in xs) (λ service. then (variable_in xs 8) (λ content. then (number_at 10 (read_number false content)) (λ called.
     then (optional_in row.Initial xs 9 (11 + length content)) (λ g. then (redirection_in g (length xs)) (λ r. Ok (InitialAddress service called.number r))))))
 
+-- what an address complete and a call progress have behind their pointer; n is the length of the message
+abbrev pub backward_of : Gathered → ℕ → Result (Backward Number) MessageFault
+backward_of g n = then (notice_in g n) (λ m. Ok (record { may_divert = g.may_divert; notice = m; restriction = g.restriction }))
+
 abbrev pub backward_in : List ℕ → ℕ → Result (Backward Number) MessageFault
-backward_in xs at =
-    then (tail_in row.Backward xs at) (λ g. then (notice_in g (length xs)) (λ n. Ok (record { may_divert = g.may_divert; notice = n; restriction = g.restriction })))
+backward_in xs at = then (tail_in row.Backward xs at) (λ g. backward_of g (length xs))
 
 abbrev pub address_complete_in : List ℕ → Result (Message Number) MessageFault
 address_complete_in xs =

@@ -2,6 +2,7 @@
 #![tactic(auto)]
 
 pub mod fault;
+mod mandatory;
 mod optional;
 pub mod parameter;
 pub mod reading;

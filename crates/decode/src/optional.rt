@@ -120,11 +120,7 @@ pub(crate) fn party(
 }
 
 // Reads the optional part from a place on in one walk: faults of its structure come first, then names met again, then values.
-pub(crate) fn read_optional(
-    row: Row,
-    octets: &[u8],
-    place: usize,
-) -> Result<Gathered, MessageFault>
+pub(crate) fn read_optional(row: Row, octets: &[u8], place: usize) -> Result<Gathered, MessageFault>
     requires { place ≤ length octets.now }
     ensures { result ≡ optional_from row octets.now place }
 {

@@ -1,97 +1,18 @@
 // Reading a message, front to back.
-ghost use Rattle.std.specs.Prelude.{◌≡◌, ◌+◌, ◌<◌, ◌≤◌, length, IfOk, Ok, Err, MatchResult};
-ghost use Rattle.decode.specs.Messages.{octet_in, exact_in, variable_in, optional_in, tail_in, redirection_in, notice_in, service_in, backward_in, initial_address_in, address_complete_in, call_progress_in, answer_in, connect_in, release_in, message_in, read_message};
+ghost use Rattle.std.specs.Prelude.{◌≡◌, ◌≤◌, length, OnOk};
+ghost use Rattle.decode.specs.Messages.{octet_in, exact_in, variable_in, optional_in, tail_in, redirection_in, notice_in, service_in, backward_of, initial_address_in, address_complete_in, call_progress_in, answer_in, connect_in, release_in, message_in, read_message};
 ghost use Rattle.decode.specs.Reading.{ReadAsCoded, EveryCodingIsRead, OnlyCodingsAreRead, OneMessageToACoding};
 
 use crate::fault::MessageFault;
-use crate::optional::{Gathered, party, read_optional};
+use crate::mandatory::Mandatory;
+use crate::optional::{Gathered, party};
 use crate::values::cause;
 use isup::message::{Backward, Circuit, Event, LineStatus, Message, Notice, Redirection, Service};
 use isup::row::Row;
 use numbers::number::Number;
 
-// An octet that must be there.
-fn octet(octets: &[u8], at: usize) -> Result<u8, MessageFault>
-    ensures { result ≡ octet_in octets.now at }
-{
-    if at >= octets.len() {
-        return Err(MessageFault::Missing(at));
-    }
-    Ok(octets[at])
-}
-
-// An octet that can have one value only.
-fn exact(octets: &[u8], at: usize, octet: u8) -> Result<(), MessageFault>
-    ensures { result ≡ exact_in octets.now at octet }
-{
-    if at >= octets.len() {
-        return Err(MessageFault::Missing(at));
-    }
-    if octets[at] != octet {
-        return Err(MessageFault::Value(at, None));
-    }
-    Ok(())
-}
-
-// The content of the variable field that the pointer at a place leads to.
-fn variable<'a>(octets: &'a [u8], at: usize) -> Result<&'a [u8], MessageFault>
-    ensures seen { MatchResult result (λ c. variable_in octets.now at ≡ Ok c.now) (λ f. variable_in octets.now at ≡ Err f) }
-    ensures fits { IfOk result (λ c. at + 3 + length c.now ≤ length octets.now) }
-{
-    if at >= octets.len() {
-        return Err(MessageFault::Missing(at));
-    }
-    if octets[at] != 2 {
-        return Err(MessageFault::Pointer(at));
-    }
-    if at + 2 >= octets.len() {
-        return Err(MessageFault::Missing(at + 2));
-    }
-    let end = at + 3 + octets[at + 2] as usize;
-    if end > octets.len() {
-        return Err(MessageFault::Missing(at + 2));
-    }
-    Ok(&octets[at + 3..end])
-}
-
-// The optional part, by its pointer; it begins where the mandatory part ends.
-fn optional(
-    row: Row,
-    octets: &[u8],
-    at: usize,
-    end: usize,
-) -> Result<Gathered, MessageFault>
-    requires { (at < end) × (end ≤ length octets.now) }
-    ensures { result ≡ optional_in row octets.now at end }
-{
-    let pointer = octets[at] as usize;
-    if pointer == 0 {
-        if end < octets.len() {
-            return Err(MessageFault::Pointer(end));
-        }
-        return Ok(Gathered::default());
-    }
-    if pointer != end - at {
-        return Err(MessageFault::Pointer(at));
-    }
-    read_optional(row, octets, end)
-}
-
-// The optional part of a message without a variable field.
-fn tail(row: Row, octets: &[u8], at: usize) -> Result<Gathered, MessageFault>
-    ensures { result ≡ tail_in row octets.now at }
-{
-    if at >= octets.len() {
-        return Err(MessageFault::Missing(at));
-    }
-    optional(row, octets, at, at + 1)
-}
-
 // 0B, 28 and 13: all or none.
-fn redirection(
-    g: &Gathered,
-    length: usize,
-) -> Result<Option<Redirection<Number>>, MessageFault>
+fn redirection(g: &Gathered, length: usize) -> Result<Option<Redirection<Number>>, MessageFault>
     ensures { result ≡ redirection_in g.now length }
 {
     match (g.redirecting, g.original, g.information) {
@@ -123,11 +44,12 @@ fn notice(g: &Gathered, length: usize) -> Result<Option<Notice<Number>>, Message
 fn service(octets: &[u8]) -> Result<Service, MessageFault>
     ensures { result ≡ service_in octets.now }
 {
-    exact(octets, 3, 0x00)?;
-    exact(octets, 4, 0x20)?;
-    exact(octets, 5, 0x01)?;
-    exact(octets, 6, 0x0A)?;
-    let code = octet(octets, 7)?;
+    let mut m = Mandatory { octets, place: 3 };
+    m.exact(0x00)?;
+    m.exact(0x20)?;
+    m.exact(0x01)?;
+    m.exact(0x0A)?;
+    let code = m.octet()?;
     Service::from_code(code).ok_or(MessageFault::Value(7, None))
 }
 
@@ -135,19 +57,19 @@ fn initial_address(octets: &[u8]) -> Result<Message, MessageFault>
     ensures { result ≡ initial_address_in octets.now }
 {
     let service = service(octets)?;
-    let content = variable(octets, 8)?;
-    let called = party(content, false, 10)?;
-    let g = optional(Row::Initial, octets, 9, 11 + content.len())?;
+    let mut m = Mandatory { octets, place: 8 };
+    let field = m.variable()?;
+    let called = party(field.content, false, field.place)?;
+    let g = m.optional(Row::Initial, field.end())?;
     let redirection = redirection(&g, octets.len())?;
     Ok(Message::InitialAddress(service, called.number, redirection))
 }
 
-// The optional parts of an address complete and of a call progress, whose pointer stands at a place.
-fn backward(octets: &[u8], at: usize) -> Result<Backward<Number>, MessageFault>
-    ensures { result ≡ backward_in octets.now at }
+// The optional parts of an address complete and of a call progress.
+fn backward(g: &Gathered, length: usize) -> Result<Backward<Number>, MessageFault>
+    ensures { result ≡ backward_of g.now length }
 {
-    let g = tail(Row::Backward, octets, at)?;
-    let notice = notice(&g, octets.len())?;
+    let notice = notice(g, length)?;
     Ok(Backward {
         may_divert: g.may_divert,
         notice,
@@ -158,44 +80,50 @@ fn backward(octets: &[u8], at: usize) -> Result<Backward<Number>, MessageFault>
 fn address_complete(octets: &[u8]) -> Result<Message, MessageFault>
     ensures { result ≡ address_complete_in octets.now }
 {
-    let code = octet(octets, 3)?;
+    let mut m = Mandatory { octets, place: 3 };
+    let code = m.octet()?;
     let status = LineStatus::from_code(code).ok_or(MessageFault::Value(3, None))?;
-    exact(octets, 4, 0x14)?;
-    let back = backward(octets, 5)?;
+    m.exact(0x14)?;
+    let g = m.tail(Row::Backward)?;
+    let back = backward(&g, octets.len())?;
     Ok(Message::AddressComplete(status, back))
 }
 
 fn call_progress(octets: &[u8]) -> Result<Message, MessageFault>
     ensures { result ≡ call_progress_in octets.now }
 {
-    let code = octet(octets, 3)?;
+    let mut m = Mandatory { octets, place: 3 };
+    let code = m.octet()?;
     let event = Event::from_code(code).ok_or(MessageFault::Value(3, None))?;
-    let back = backward(octets, 4)?;
+    let g = m.tail(Row::Backward)?;
+    let back = backward(&g, octets.len())?;
     Ok(Message::CallProgress(event, back))
 }
 
 fn answer(octets: &[u8]) -> Result<Message, MessageFault>
     ensures { result ≡ answer_in octets.now }
 {
-    let g = tail(Row::Connected, octets, 3)?;
+    let g = Mandatory { octets, place: 3 }.tail(Row::Connected)?;
     Ok(Message::Answer(g.restriction))
 }
 
 fn connect(octets: &[u8]) -> Result<Message, MessageFault>
     ensures { result ≡ connect_in octets.now }
 {
-    exact(octets, 3, 0x04)?;
-    exact(octets, 4, 0x14)?;
-    let g = tail(Row::Connected, octets, 5)?;
+    let mut m = Mandatory { octets, place: 3 };
+    m.exact(0x04)?;
+    m.exact(0x14)?;
+    let g = m.tail(Row::Connected)?;
     Ok(Message::Connect(g.restriction))
 }
 
 fn release(octets: &[u8]) -> Result<Message, MessageFault>
     ensures { result ≡ release_in octets.now }
 {
-    let content = variable(octets, 3)?;
-    let cause = cause(content).ok_or(MessageFault::Value(5, None))?;
-    let _ = optional(Row::Bare, octets, 4, 6 + content.len())?;
+    let mut m = Mandatory { octets, place: 3 };
+    let field = m.variable()?;
+    let cause = cause(field.content).ok_or(MessageFault::Value(field.place, None))?;
+    let _ = m.optional(Row::Bare, field.end())?;
     Ok(Message::Release(cause))
 }
 
