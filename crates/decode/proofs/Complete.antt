@@ -12,7 +12,7 @@ use Rattle.numbers.proofs.Contents.{complete}
 use Rattle.isup.specs.declared.message.Service.{Service}
 use Rattle.isup.specs.declared.message.LineStatus.{LineStatus}
 use Rattle.isup.specs.declared.message.Event.{Event}
-use Rattle.isup.specs.declared.message.Cause.{Cause}
+use Rattle.isup.specs.Ranges.{Cause}
 use Rattle.isup.specs.declared.message.Circuit.{Circuit}
 use Rattle.isup.specs.declared.message.Redirection.{Redirection}
 use Rattle.isup.specs.declared.message.Notice.{Notice}

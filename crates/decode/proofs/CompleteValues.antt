@@ -4,7 +4,7 @@ use Rattle.std.proofs.lemmas.Bool.{cond-true}
 use Rattle.std.proofs.lemmas.Bool.Decides.{nat_tests}
 use Rattle.isup.specs.declared.message.Notification.{Notification}
 use Rattle.isup.specs.declared.message.Notification.TheVariants as notification
-use Rattle.isup.specs.declared.message.Cause.{Cause}
+use Rattle.isup.specs.Ranges.{Cause}
 use Rattle.isup.specs.declared.message.Circuit.{Circuit}
 use Rattle.isup.specs.declared.message.RedirectionInformation.{RedirectionInformation}
 use Rattle.isup.specs.declared.message.DiversionInformation.{DiversionInformation}
@@ -12,7 +12,7 @@ use Rattle.isup.specs.declared.message.Restriction.{Restriction}
 use Rattle.isup.specs.Ranges.{cause_in, count_in, circuit_in, circuit_from}
 use Rattle.isup.specs.Codes.{reason_code, reason_of, notification_code, notification_of, indicator_code, indicator_of}
 use Rattle.isup.specs.Coding.{information_octets, diversion_octets, restriction_octets}
-use Rattle.isup.proofs.Coded.{found_reason, found_notification, found_indicator, found_restriction, found_count, found_cause, found_circuit}
+use Rattle.isup.proofs.Coded.{found_reason, found_notification, found_indicator, found_restriction, found_ranged, found_circuit}
 use Rattle.decode.specs.Values.{and_then, information_in, diversion_in, restriction_in, cause_from}
 
 -- one reading after another where the first succeeds
@@ -25,7 +25,7 @@ information_read i =
     let low : (reason_code i.reason * 16 + i.count.value) % 16 ≡ i.count.value = omega arith in
     let high : (reason_code i.reason * 16 + i.count.value) / 16 ≡ reason_code i.reason = omega arith in
     and_then_lem (indicator_of (indicator_code i.indicator)) _ i.indicator _ (found_indicator i.indicator)
-    (and_then_lem (count_in ((reason_code i.reason * 16 + i.count.value) % 16)) _ i.count _ (ap count_in low ∙ found_count i.count)
+    (and_then_lem (count_in ((reason_code i.reason * 16 + i.count.value) % 16)) _ i.count _ (ap count_in low ∙ found_ranged i.count)
     (and_then_lem (reason_of ((reason_code i.reason * 16 + i.count.value) / 16)) _ i.reason _ (ap reason_of high ∙ found_reason i.reason) refl))
 
 notification_small : (o : Notification) → notification_code o ≤ 3
@@ -50,7 +50,7 @@ pub cause_read : (c : Cause) → cause_from (0x82 ∷ (0x80 + c.value) ∷ []) �
 cause_read c =
     let above : leb 0x80 (0x80 + c.value) ≡ true = grind (arith, nat_tests) in
     let less : 0x80 + c.value - 0x80 ≡ c.value = omega arith in
-    cond-true (leb 0x80 (0x80 + c.value)) _ _ above ∙ ap cause_in less ∙ found_cause c
+    cond-true (leb 0x80 (0x80 + c.value)) _ _ above ∙ ap cause_in less ∙ found_ranged c
 
 pub circuit_read : (c : Circuit) → circuit_from ((8 * c.call + c.leg) % 256) ((8 * c.call + c.leg) / 256) ≡ Some c
 circuit_read c =

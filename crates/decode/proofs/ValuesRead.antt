@@ -7,14 +7,14 @@ use Rattle.numbers.specs.declared.number.NumberFault.{NumberFault}
 use Rattle.numbers.specs.Digits.{content, plain}
 use Rattle.numbers.specs.Reading.{read_number, NumberCoded}
 use Rattle.numbers.proofs.Contents.{sound}
-use Rattle.isup.specs.declared.message.Cause.{Cause}
+use Rattle.isup.specs.Ranges.{Cause}
 use Rattle.isup.specs.declared.message.RedirectionInformation.{RedirectionInformation}
 use Rattle.isup.specs.declared.message.DiversionInformation.{DiversionInformation}
 use Rattle.isup.specs.declared.message.Restriction.{Restriction}
 use Rattle.isup.specs.Ranges.{count_in}
 use Rattle.isup.specs.Codes.{reason_code, reason_of, notification_code, notification_of, indicator_code, indicator_of, restriction_code}
 use Rattle.isup.specs.Coding.{information_octets, diversion_octets, restriction_octets}
-use Rattle.isup.proofs.Coded.{code_of_found, number_of_cause, number_of_count}
+use Rattle.isup.proofs.Coded.{code_of_found, number_of_ranged}
 use Rattle.decode.specs.Values.{is_octet, information_in, diversion_in, restriction_in, cause_from}
 use Rattle.decode.specs.Optional.{number_at}
 use Rattle.decode.proofs.Passed.{no_answer, found_passed, found_after}
@@ -37,7 +37,7 @@ information_octets_lem c i e =
     let n = found_after (count_in (get_or c 1 0 % 16)) _ i a.1.1 in
     let r = found_after (reason_of (get_or c 1 0 / 16)) _ i n.1.1 in
     let is : record { indicator = a.0; count = n.0; reason = r.0 } ≡ i = cc r.1.1 in
-    let low = number_of_count (get_or c 1 0 % 16) n.0 n.1.0 in
+    let low = number_of_ranged 1 5 (get_or c 1 0 % 16) n.0 n.1.0 in
     let high : get_or c 1 0 / 16 ≡ reason_code r.0 = search (code_of_found, r.1.0) in
     two c (indicator_code a.0) _ (eqb-true (length c) 2 l.0) (search (code_of_found, a.1.0))
     (let both : get_or c 1 0 ≡ reason_code r.0 * 16 + n.0.value = omega arith in both)
@@ -65,7 +65,7 @@ cause_octets c x e =
     let b = and_parts (eqb (length c) 2) (eqb (get_or c 0 0) 0x82) a.0 in
     let d = found_passed (leb 0x80 (get_or c 1 0)) _ x a.1 in
     let above = leb-true 0x80 (get_or c 1 0) d.0 in
-    let is = number_of_cause (get_or c 1 0 - 0x80) x d.1 in
+    let is = number_of_ranged 1 127 (get_or c 1 0 - 0x80) x d.1 in
     two c _ _ (eqb-true (length c) 2 b.0) (eqb-true (get_or c 0 0) 0x82 b.1) (let v : get_or c 1 0 ≡ 0x80 + x.value = omega arith in v)
 
 pub lone_octet : (c : List ℕ) (n : ℕ) → is_octet c n ≡ true → c ≡ n ∷ []

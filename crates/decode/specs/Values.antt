@@ -1,6 +1,6 @@
 -- What the contents of optional parameters and of the cause mean.
 use Rattle.std.specs.Prelude.{ℕ, ◌-◌, ◌/◌, ◌%◌, Bool, cond, ◌&&◌, List, length, Some, None, Option, ◌==◌, nat_le, slice_index}
-use Rattle.isup.specs.declared.message.Cause.{Cause}
+use Rattle.isup.specs.Ranges.{Cause}
 use Rattle.isup.specs.declared.message.RedirectionInformation.{RedirectionInformation}
 use Rattle.isup.specs.declared.message.DiversionInformation.{DiversionInformation}
 use Rattle.isup.specs.declared.message.Restriction.{Restriction}

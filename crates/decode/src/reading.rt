@@ -7,7 +7,10 @@ use crate::fault::MessageFault;
 use crate::mandatory::Mandatory;
 use crate::optional::{Gathered, party};
 use crate::values::cause;
-use isup::message::{Backward, Circuit, Event, LineStatus, Message, Notice, Redirection, Service};
+use isup::groups::all_or_none;
+use isup::message::{
+    Backward, Circuit, Event, LineStatus, Message, MessageKind, Notice, Redirection, Service,
+};
 use isup::row::Row;
 use numbers::number::Number;
 
@@ -15,29 +18,25 @@ use numbers::number::Number;
 fn redirection(g: &Gathered, length: usize) -> Result<Option<Redirection<Number>>, MessageFault>
     ensures { result ≡ redirection_in g.now length }
 {
-    match (g.redirecting, g.original, g.information) {
-        (Some(redirecting), Some(original), Some(information)) => Ok(Some(Redirection {
-            redirecting,
-            original,
-            information,
-        })),
-        (None, None, None) => Ok(None),
-        _ => Err(MessageFault::Group(length)),
-    }
+    let group = all_or_none(g.redirecting, g.original, g.information);
+    let group = group.map_err(|_| MessageFault::Group(length))?;
+    Ok(group.map(|(redirecting, original, information)| Redirection {
+        redirecting,
+        original,
+        information,
+    }))
 }
 
 // 2C, 36 and 0C: all or none.
 fn notice(g: &Gathered, length: usize) -> Result<Option<Notice<Number>>, MessageFault>
     ensures { result ≡ notice_in g.now length }
 {
-    match (g.announced, g.diversion, g.redirection) {
-        (true, Some(information), Some(number)) => Ok(Some(Notice {
-            information,
-            number,
-        })),
-        (false, None, None) => Ok(None),
-        _ => Err(MessageFault::Group(length)),
-    }
+    let group = all_or_none(g.announced.then_some(()), g.diversion, g.redirection);
+    let group = group.map_err(|_| MessageFault::Group(length))?;
+    Ok(group.map(|(_, information, number)| Notice {
+        information,
+        number,
+    }))
 }
 
 // The fixed octets of an initial address.
@@ -50,7 +49,7 @@ fn service(octets: &[u8]) -> Result<Service, MessageFault>
     m.exact(0x01)?;
     m.exact(0x0A)?;
     let code = m.octet()?;
-    Service::from_code(code).ok_or(MessageFault::Value(7, None))
+    Service::try_from(code).map_err(|_| MessageFault::Value(7, None))
 }
 
 fn initial_address(octets: &[u8]) -> Result<Message, MessageFault>
@@ -82,7 +81,7 @@ fn address_complete(octets: &[u8]) -> Result<Message, MessageFault>
 {
     let mut m = Mandatory { octets, place: 3 };
     let code = m.octet()?;
-    let status = LineStatus::from_code(code).ok_or(MessageFault::Value(3, None))?;
+    let status = LineStatus::try_from(code).map_err(|_| MessageFault::Value(3, None))?;
     m.exact(0x14)?;
     let g = m.tail(Row::Backward)?;
     let back = backward(&g, octets.len())?;
@@ -94,7 +93,7 @@ fn call_progress(octets: &[u8]) -> Result<Message, MessageFault>
 {
     let mut m = Mandatory { octets, place: 3 };
     let code = m.octet()?;
-    let event = Event::from_code(code).ok_or(MessageFault::Value(3, None))?;
+    let event = Event::try_from(code).map_err(|_| MessageFault::Value(3, None))?;
     let g = m.tail(Row::Backward)?;
     let back = backward(&g, octets.len())?;
     Ok(Message::CallProgress(event, back))
@@ -132,14 +131,14 @@ fn message(octets: &[u8]) -> Result<Message, MessageFault>
     requires { 3 ≤ length octets.now }
     ensures { result ≡ message_in octets.now }
 {
-    match octets[2] {
-        0x01 => initial_address(octets),
-        0x06 => address_complete(octets),
-        0x2C => call_progress(octets),
-        0x09 => answer(octets),
-        0x07 => connect(octets),
-        0x0C => release(octets),
-        _ => Err(MessageFault::Kind),
+    let kind = MessageKind::try_from(octets[2]).map_err(|_| MessageFault::Kind)?;
+    match kind {
+        MessageKind::InitialAddress => initial_address(octets),
+        MessageKind::AddressComplete => address_complete(octets),
+        MessageKind::CallProgress => call_progress(octets),
+        MessageKind::Answer => answer(octets),
+        MessageKind::Connect => connect(octets),
+        MessageKind::Release => release(octets),
     }
 }
 

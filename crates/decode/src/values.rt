@@ -20,9 +20,9 @@ pub(crate) fn information(content: &[u8]) -> Option<RedirectionInformation>
     let [first, second] = content else {
         return None;
     };
-    let indicator = Indicator::from_code(*first)?;
+    let indicator = Indicator::try_from(*first).ok()?;
     let count = Count::new(*second & 0x0F)?;
-    let reason = Reason::from_code(*second >> 4)?;
+    let reason = Reason::try_from(*second >> 4).ok()?;
     Some(RedirectionInformation {
         indicator,
         count,
@@ -37,8 +37,8 @@ pub(crate) fn diversion(content: &[u8]) -> Option<DiversionInformation>
     let [octet] = content else {
         return None;
     };
-    let notification = Notification::from_code(*octet & 0x07)?;
-    let reason = Reason::from_code(*octet >> 3)?;
+    let notification = Notification::try_from(*octet & 0x07).ok()?;
+    let reason = Reason::try_from(*octet >> 3).ok()?;
     Some(DiversionInformation {
         notification,
         reason,
@@ -51,7 +51,7 @@ pub(crate) fn restriction(content: &[u8]) -> Option<Restriction>
     let [octet] = content else {
         return None;
     };
-    Restriction::from_code(*octet)
+    Restriction::try_from(*octet).ok()
 }
 
 // 82, then 80 and the cause.
