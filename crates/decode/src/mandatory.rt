@@ -1,9 +1,12 @@
 // Reading the mandatory part of a message, front to back.
-ghost use Rattle.std.specs.Prelude.{◌≡◌, ◌+◌, ◌^◌, ◌<◌, ◌≤◌, length, Ok, Err, MatchResult, OnOk, IfOk};
+ghost use Rattle.std.specs.Prelude.{◌≡◌, ◌+◌, ◌^◌, ◌<◌, ◌≤◌, length, Ok, Err, MatchResult, OnOk, IfOk, Result};
+ghost use Rattle.isup.specs.declared.codes.UnknownCode.{UnknownCode};
+ghost use Rattle.decode.specs.Faults.{known_or_fault};
 ghost use Rattle.decode.specs.Messages.{octet_in, exact_in, variable_in, optional_in, tail_in};
 
 use crate::fault::MessageFault;
 use crate::optional::{Gathered, read_optional};
+use isup::codes::UnknownCode;
 use isup::row::Row;
 
 // A message's octets and the place that the reader has come to.
@@ -44,6 +47,17 @@ impl<'a> Mandatory<'a> {
             return Err(MessageFault::Value(at, None));
         }
         Ok(())
+    }
+
+    // The value that an octet is the code of.
+    pub fn coded<T: TryFrom<u8, Error = UnknownCode> + Copy>(&mut self) -> Result<T, MessageFault>
+        ensures read { MatchResult (octet_in self.old.octets.now self.old.place) (λ code. (r : Result T UnknownCode) × (T.try_from_gives code r × (result ≡ known_or_fault r self.old.place))) (λ f. result ≡ Err f) }
+        ensures moved { OnOk result (self.new.place ≡ self.old.place + 1) }
+        ensures same { self.new.octets.now ≡ self.old.octets.now }
+    {
+        let at = self.place;
+        let code = self.octet()?;
+        T::try_from(code).map_err(|_| MessageFault::Value(at, None))
     }
 
     // The variable field that the pointer at the place leads to; the place moves to the next pointer.

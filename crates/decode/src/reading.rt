@@ -48,8 +48,7 @@ fn service(octets: &[u8]) -> Result<Service, MessageFault>
     m.exact(0x20)?;
     m.exact(0x01)?;
     m.exact(0x0A)?;
-    let code = m.octet()?;
-    Service::try_from(code).map_err(|_| MessageFault::Value(7, None))
+    m.coded()
 }
 
 fn initial_address(octets: &[u8]) -> Result<Message, MessageFault>
@@ -80,8 +79,7 @@ fn address_complete(octets: &[u8]) -> Result<Message, MessageFault>
     ensures { result ≡ address_complete_in octets.now }
 {
     let mut m = Mandatory { octets, place: 3 };
-    let code = m.octet()?;
-    let status = LineStatus::try_from(code).map_err(|_| MessageFault::Value(3, None))?;
+    let status: LineStatus = m.coded()?;
     m.exact(0x14)?;
     let g = m.tail(Row::Backward)?;
     let back = backward(&g, octets.len())?;
@@ -92,8 +90,7 @@ fn call_progress(octets: &[u8]) -> Result<Message, MessageFault>
     ensures { result ≡ call_progress_in octets.now }
 {
     let mut m = Mandatory { octets, place: 3 };
-    let code = m.octet()?;
-    let event = Event::try_from(code).map_err(|_| MessageFault::Value(3, None))?;
+    let event: Event = m.coded()?;
     let g = m.tail(Row::Backward)?;
     let back = backward(&g, octets.len())?;
     Ok(Message::CallProgress(event, back))
