@@ -2,7 +2,6 @@
 use Rattle.std.proofs.Common.{◌≡◌, ℕ, zero, suc, ◌+◌, ◌-◌, ◌<◌, ◌≤◌, Bool, true, false, cond, eqb, ltb, leb, List, [], ◌∷◌, ◌++◌, length, get_or, take, drop, Some, None, Ok, Err, Option, Result, sym, refl, ap, ◌∙◌, subst, arith}
 use Rattle.std.proofs.lemmas.List.{drop_all, drop_more, length-take-le, length-drop, take-append-drop, drop-drop}
 use Rattle.std.proofs.lemmas.Bool.{eqb-true, ltb-false, leb-false}
-use Rattle.numbers.specs.declared.number.Number.{Number}
 use Rattle.numbers.proofs.Contents.{passed, passed_not}
 use Rattle.isup.specs.declared.row.Row.{Row}
 use Rattle.isup.specs.Rows.{has}

@@ -1,6 +1,5 @@
 -- What stands under each name of what is gathered.
 use Rattle.std.proofs.Common.{ℕ, cond, eqb, List, [], ◌∷◌}
-use Rattle.numbers.specs.declared.number.Number.{Number}
 use Rattle.numbers.specs.Digits.{content, plain}
 use Rattle.isup.specs.Coding.{if_there, information_octets, diversion_octets, restriction_octets}
 use Rattle.decode.specs.declared.optional.Gathered.{Gathered}

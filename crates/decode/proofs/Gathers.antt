@@ -3,7 +3,6 @@ use Rattle.std.proofs.Common.{◌≡◌, ℕ, Bool, true, false, cond, eqb, List
 use Rattle.std.proofs.lemmas.Bool.Decides.{nat_tests, eqb_tells}
 use Rattle.std.proofs.lemmas.Bool.{or_parts, cases_Bool, cond-true, cond-false}
 use Rattle.std.proofs.lemmas.List.{append-nil}
-use Rattle.numbers.specs.declared.number.Number.{Number}
 use Rattle.numbers.specs.Digits.{content, plain}
 use Rattle.numbers.proofs.Contents.{passed}
 use Rattle.isup.specs.declared.row.Row.{Row}

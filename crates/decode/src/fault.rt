@@ -6,7 +6,7 @@ ghost use Rattle.decode.specs.Faults.{fault_number, fault_place, fault_within};
 use numbers::number::NumberFault;
 
 // Each with the place of the field, the parameter or the early 00 that it is about.
-#[derive(Clone, Copy, PartialEq, Eq)]
+#[derive(Clone, Copy, Debug, PartialEq, Eq)]
 pub enum MessageFault {
     // Fewer than 3 octets or more than 255.
     Length,
@@ -71,7 +71,7 @@ impl MessageFault {
 }
 
 // A number's fault and the place of the number's field.
-#[derive(Clone, Copy, PartialEq, Eq)]
+#[derive(Clone, Copy, Debug, PartialEq, Eq)]
 pub struct FaultAt {
     pub place: usize,
     pub fault: NumberFault,
