@@ -6,6 +6,7 @@ ghost use Rattle.decode.specs.Messages.{octet_in, exact_in, variable_in, optiona
 
 use crate::fault::MessageFault;
 use crate::optional::{Gathered, read_optional};
+use crate::parameter::OptionalPart;
 use isup::codes::UnknownCode;
 use isup::row::Row;
 
@@ -96,7 +97,7 @@ impl<'a> Mandatory<'a> {
         if pointer != end - at {
             return Err(MessageFault::Pointer(at));
         }
-        read_optional(row, self.octets, end)
+        read_optional(row, OptionalPart::new(self.octets, end))
     }
 
     // The optional part of a message without a variable field.

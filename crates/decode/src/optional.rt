@@ -35,6 +35,7 @@ pub(crate) struct Walk {
 
 impl Gathered {
     // Takes the value of one parameter beside those of others; a fault changes nothing.
+    // Written into its callers it takes a tenth more instructions, since what is gathered then lies in registers.
     #[inline(never)]
     fn gather(&mut self, p: OptionalParameter) -> Result<(), MessageFault>
         requires { InItsCase p }
@@ -98,11 +99,13 @@ impl Walk {
     fn end(self) -> Result<Gathered, MessageFault>
         ensures { result ≡ end_of self }
     {
-        match (self.again, self.fault) {
-            (Some(place), _) => Err(MessageFault::Repeated(place)),
-            (None, Some(fault)) => Err(fault),
-            (None, None) => Ok(self.gathered),
+        if let Some(place) = self.again {
+            return Err(MessageFault::Repeated(place));
         }
+        if let Some(fault) = self.fault {
+            return Err(fault);
+        }
+        Ok(self.gathered)
     }
 }
 
@@ -119,12 +122,11 @@ pub(crate) fn party(
     Ok(party)
 }
 
-// Reads the optional part from a place on in one walk: faults of its structure come first, then names met again, then values.
-pub(crate) fn read_optional(row: Row, octets: &[u8], place: usize) -> Result<Gathered, MessageFault>
-    requires { place ≤ length octets.now }
-    ensures { result ≡ optional_from row octets.now place }
+// Reads what is left of the optional part in one walk: faults of its structure come first, then names met again, then values.
+pub(crate) fn read_optional(row: Row, mut part: OptionalPart) -> Result<Gathered, MessageFault>
+    requires { part.place ≤ length part.octets.now }
+    ensures { result ≡ optional_from row part.entry.octets.now part.entry.place }
 {
-    let mut part = OptionalPart::new(octets, place);
     let mut met = [false; 256];
     let mut walk = Walk::default();
     while let Some(p) = part.next()? {

@@ -20,7 +20,10 @@ fn redirection(g: &Gathered, length: usize) -> Result<Option<Redirection<Number>
 {
     let group = all_or_none(g.redirecting, g.original, g.information);
     let group = group.map_err(|_| MessageFault::Group(length))?;
-    Ok(group.map(|(redirecting, original, information)| Redirection {
+    let Some((redirecting, original, information)) = group else {
+        return Ok(None);
+    };
+    Ok(Some(Redirection {
         redirecting,
         original,
         information,
@@ -33,7 +36,10 @@ fn notice(g: &Gathered, length: usize) -> Result<Option<Notice<Number>>, Message
 {
     let group = all_or_none(g.announced.then_some(()), g.diversion, g.redirection);
     let group = group.map_err(|_| MessageFault::Group(length))?;
-    Ok(group.map(|(_, information, number)| Notice {
+    let Some((_, information, number)) = group else {
+        return Ok(None);
+    };
+    Ok(Some(Notice {
         information,
         number,
     }))

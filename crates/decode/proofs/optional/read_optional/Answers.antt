@@ -9,7 +9,7 @@ use Rattle.decode.proofs.optional.read_optional.Goals as goal
 pub loop-p-init : goal.loop-p-init
 loop-p-init c =
     let w : c.default-walk.result ≡ start = search rules in
-    record { within = search rules; same = search rules; flags = refl; comes = rw (w, c.new-part.ensures.1) (begins c.args.row c.args.octets.now c.args.place) }
+    record { within = search rules; same = search rules; flags = refl; comes = rw w (begins c.args.row c.args.part.octets.now c.args.part.place) }
 
 pub loop-p-preserved-then-has : goal.loop-p-preserved-then-has
 loop-p-preserved-then-has c =
