@@ -14,10 +14,11 @@ use Rattle.isup.specs.Coding.{Parameter, encoded, Named, contents, if_there, inf
 use Rattle.decode.specs.declared.fault.MessageFault.{MessageFault}
 use Rattle.decode.specs.declared.optional.Gathered.{Gathered}
 use Rattle.decode.specs.Faults.{then, or_value_fault}
-use Rattle.decode.specs.Values.{information_in, diversion_in, restriction_in}
+use Rattle.decode.specs.Values.{is_octet, information_in, diversion_in, restriction_in}
 use Rattle.decode.specs.Parameters.{Part}
 use Rattle.decode.specs.Optional.{member, repeated, nothing, number_at, octet_at, value_of, collected, unless_repeated, optional_from, with_redirecting, with_original, with_information, with_may_divert, with_announced, with_diversion, with_redirection, with_restriction}
 use Rattle.decode.specs.Messages.{optional_in}
+use Rattle.decode.proofs.Passed.{other, by_name}
 use Rattle.decode.proofs.Parts.{placed_from, parts_complete}
 use Rattle.decode.proofs.Fields.{gathered_field}
 use Rattle.decode.proofs.CompleteValues.{information_read, diversion_read, restriction_read}
@@ -28,15 +29,6 @@ clash e = let z : ◌≡◌ {A = ℕ} 0 1 = cc in absurd (omega arith)
 -- one reading after another where the first succeeds
 pub then_ok : {A B : Type 0} (r : Result A MessageFault) (f : A → Result B MessageFault) (x : A) (y : Result B MessageFault) → r ≡ Ok x → f x ≡ y → then r f ≡ y
 then_ok r f x y e k = ap (λ s. then s f) e ∙ k
-
--- a part that is there, by its octets
-there : {X : Type 0} (f : X → List ℕ) (o : Option X) (c : List ℕ) → if_there f o ≡ c ∷ [] → (x : X) × ((o ≡ Some x) × (c ≡ f x))
-there f (Some x) c e = (x, (refl, (cc)))
-there f None c e = clash (sym e)
-
-flag_there : (b : Bool) (d c : List ℕ) → cond b (d ∷ []) [] ≡ c ∷ [] → (b ≡ true) × (c ≡ d)
-flag_there true d c e = (refl, (cc))
-flag_there false d c e = clash (sym e)
 
 -- what is gathered of t once these names were met
 abbrev only : List ℕ → Gathered → Gathered
@@ -58,81 +50,36 @@ Brings names t c at n = gathered_field t n ≡ c ∷ [] → value_of (only names
 number_read : (may : Bool) (p : Party Number) (c : List ℕ) (at : ℕ) → (p.restricted ≡ true → may ≡ true) → c ≡ content p → number_at at (read_number may c) ≡ Ok p
 number_read may p c at m e = ap (number_at at) (complete may c p (record { marked = m; same = e }))
 
-brings_0b : (names : List ℕ) (t : Gathered) (c : List ℕ) (at : ℕ) → Brings names t c at 0x0B
-brings_0b names t c at e =
-    let x = there content t.redirecting c e in
-    let y = x.1.0 in
-    then_ok (number_at at (read_number true c)) _ x.0 _ (number_read true x.0 c at (λ _. refl) x.1.1)
-    (let z : Ok (with_redirecting (only names t) x.0) ≡ Ok (only (0x0B ∷ names) t) = cc in z)
-
-brings_28 : (names : List ℕ) (t : Gathered) (c : List ℕ) (at : ℕ) → Brings names t c at 0x28
-brings_28 names t c at e =
-    let x = there content t.original c e in
-    let y = x.1.0 in
-    then_ok (number_at at (read_number true c)) _ x.0 _ (number_read true x.0 c at (λ _. refl) x.1.1)
-    (let z : Ok (with_original (only names t) x.0) ≡ Ok (only (0x28 ∷ names) t) = cc in z)
-
-brings_0c : (names : List ℕ) (t : Gathered) (c : List ℕ) (at : ℕ) → Brings names t c at 0x0C
-brings_0c names t c at e =
-    let x = there plain t.redirection c e in
-    let y = x.1.0 in
-    then_ok (number_at at (read_number false c)) _ (record { number = x.0; restricted = false }) _
-    (number_read false (record { number = x.0; restricted = false }) c at (λ z. z) x.1.1)
-    (let z : Ok (with_redirection (only names t) (record { number = x.0; restricted = false })) ≡ Ok (only (0x0C ∷ names) t) = cc in z)
-
 value_read : {X : Type 0} (f : List ℕ → Option X) (g : X → List ℕ) → ((x : X) → f (g x) ≡ Some x) → (x : X) (c : List ℕ) (at : ℕ) → c ≡ g x → or_value_fault (f c) at ≡ Ok x
 value_read f g k x c at e = ap (λ o. or_value_fault o at) (ap f e ∙ k x)
 
-brings_13 : (names : List ℕ) (t : Gathered) (c : List ℕ) (at : ℕ) → Brings names t c at 0x13
-brings_13 names t c at e =
-    let x = there information_octets t.information c e in
-    let y = x.1.0 in
-    then_ok (or_value_fault (information_in c) at) _ x.0 _ (value_read information_in information_octets information_read x.0 c at x.1.1)
-    (let z : Ok (with_information (only names t) x.0) ≡ Ok (only (0x13 ∷ names) t) = cc in z)
+-- the octets of a part that is there are read as that part, which is kept
+brought :
+    {X Y : Type 0} (f : X → List ℕ) (o : Option X) (c : List ℕ) (r : Result Y MessageFault) (with : Y → Gathered) (g : Gathered) →
+    ((x : X) → o ≡ Some x → c ≡ f x → (y : Y) × ((r ≡ Ok y) × (with y ≡ g))) → if_there f o ≡ c ∷ [] → then r (λ y. Ok (with y)) ≡ Ok g
+brought f (Some x) c r with g k e = let y = k x refl (cc) in then_ok r _ y.0 _ y.1.0 (ap (λ (h : Gathered). Ok h) y.1.1)
+brought f None c r with g k e = clash (sym e)
 
-brings_36 : (names : List ℕ) (t : Gathered) (c : List ℕ) (at : ℕ) → Brings names t c at 0x36
-brings_36 names t c at e =
-    let x = there diversion_octets t.diversion c e in
-    let y = x.1.0 in
-    then_ok (or_value_fault (diversion_in c) at) _ x.0 _ (value_read diversion_in diversion_octets diversion_read x.0 c at x.1.1)
-    (let z : Ok (with_diversion (only names t) x.0) ≡ Ok (only (0x36 ∷ names) t) = cc in z)
-
-brings_40 : (names : List ℕ) (t : Gathered) (c : List ℕ) (at : ℕ) → Brings names t c at 0x40
-brings_40 names t c at e =
-    let x = there restriction_octets t.restriction c e in
-    let y = x.1.0 in
-    then_ok (or_value_fault (restriction_in c) at) _ x.0 _ (value_read restriction_in restriction_octets restriction_read x.0 c at x.1.1)
-    (let z : Ok (with_restriction (only names t) x.0) ≡ Ok (only (0x40 ∷ names) t) = cc in z)
-
-brings_29 : (names : List ℕ) (t : Gathered) (c : List ℕ) (at : ℕ) → Brings names t c at 0x29
-brings_29 names t c at e =
-    let x = flag_there t.may_divert (0x02 ∷ []) c e in
-    let y = x.0 in
-    ap (λ (l : List ℕ). octet_at at l 0x02 (with_may_divert (only names t))) x.1
-    ∙ (let z : Ok (with_may_divert (only names t)) ≡ Ok (only (0x29 ∷ names) t) = cc in z)
-
-brings_2c : (names : List ℕ) (t : Gathered) (c : List ℕ) (at : ℕ) → Brings names t c at 0x2C
-brings_2c names t c at e =
-    let x = flag_there t.announced (0xFB ∷ []) c e in
-    let y = x.0 in
-    ap (λ (l : List ℕ). octet_at at l 0xFB (with_announced (only names t))) x.1
-    ∙ (let z : Ok (with_announced (only names t)) ≡ Ok (only (0x2C ∷ names) t) = cc in z)
+flag_brought : (b : Bool) (n : ℕ) (c : List ℕ) (at : ℕ) (h g : Gathered) → (b ≡ true → h ≡ g) → cond b ((n ∷ []) ∷ []) [] ≡ c ∷ [] → octet_at at c n h ≡ Ok g
+flag_brought true n c at h g k e =
+    let one : c ≡ n ∷ [] = cc in
+    ap (λ (l : List ℕ). octet_at at l n h) one ∙ cond-true (is_octet (n ∷ []) n) _ _ (eq-eqb n n refl) ∙ ap (λ (x : Gathered). Ok x) (k refl)
+flag_brought false n c at h g k e = clash (sym e)
 
 -- a name under which something stands is one of the eight
 brings : (names : List ℕ) (t : Gathered) (c : List ℕ) (at n : ℕ) → Brings names t c at n
 brings names t c at n =
-    at_name 0x0B (brings_0b names t c at) (λ n0.
-    at_name 0x28 (brings_28 names t c at) (λ n1.
-    at_name 0x13 (brings_13 names t c at) (λ n2.
-    at_name 0x29 (brings_29 names t c at) (λ n3.
-    at_name 0x2C (brings_2c names t c at) (λ n4.
-    at_name 0x36 (brings_36 names t c at) (λ n5.
-    at_name 0x0C (brings_0c names t c at) (λ n6.
-    at_name 0x40 (brings_40 names t c at) (λ n7 e.
+    let g = only names t in
+    let P = Brings names t c at in
+    by_name P n 0x0B (brought content t.redirecting c _ (with_redirecting g) _ (λ x o s. (x, (number_read true x c at (λ _. refl) s, cc)))) (λ n0.
+    by_name P n 0x28 (brought content t.original c _ (with_original g) _ (λ x o s. (x, (number_read true x c at (λ _. refl) s, cc)))) (λ n1.
+    by_name P n 0x13 (brought information_octets t.information c _ (with_information g) _ (λ x o s. (x, (value_read information_in information_octets information_read x c at s, cc)))) (λ n2.
+    by_name P n 0x29 (flag_brought t.may_divert 0x02 c at (with_may_divert g) _ (λ b. cc)) (λ n3.
+    by_name P n 0x2C (flag_brought t.announced 0xFB c at (with_announced g) _ (λ b. cc)) (λ n4.
+    by_name P n 0x36 (brought diversion_octets t.diversion c _ (with_diversion g) _ (λ x o s. (x, (value_read diversion_in diversion_octets diversion_read x c at s, cc)))) (λ n5.
+    by_name P n 0x0C (brought plain t.redirection c _ (with_redirection g) _ (λ x o s. (record { number = x; restricted = false }, (number_read false _ c at (λ z. z) s, cc)))) (λ n6.
+    by_name P n 0x40 (brought restriction_octets t.restriction c _ (with_restriction g) _ (λ x o s. (x, (value_read restriction_in restriction_octets restriction_read x c at s, cc)))) (λ n7 e.
     clash (sym (let z : gathered_field t n ≡ [] = grind (arith, nat_tests) in sym z ∙ e))))))))))
-  where
-    at_name : (m : ℕ) → Brings names t c at m → ((n ≡ m → ⊥) → Brings names t c at n) → Brings names t c at n
-    at_name m b k = elim (eqb_tells n m) [ inl p ↦ subst (Brings names t c at) (sym p.1) b | inr p ↦ k p.1 ]
 
 -- no more than one content stands under a name
 there_once : {X : Type 0} (f : X → List ℕ) (o : Option X) → length (if_there f o) ≤ 1
@@ -197,11 +144,6 @@ Within row t = (n : ℕ) → has row n ≡ false → gathered_field t n ≡ []
 -- what is left carries what t has under the names not yet met, and nothing under the others
 abbrev Left : Row → List ℕ → Gathered → List Parameter → Type 0
 Left row names t qs = (n : ℕ) → has row n ≡ true → contents n qs ≡ cond (member n names) [] (gathered_field t n)
-
-other : (row : Row) (n m : ℕ) → has row n ≡ true → has row m ≡ false → eqb n m ≡ false
-other row n m k f =
-    elim (eqb_tells n m)
-    [ inl p ↦ (let z : true ≡ false = sym k ∙ ap (has row) p.1 ∙ f in let y : ◌≡◌ {A = ℕ} 0 1 = cc in absurd (omega arith)) | inr p ↦ p.0 ]
 
 -- the first parameter, where its name is the row's, is the only one of its name and brings what t has there
 record First (row : Row) (names : List ℕ) (t : Gathered) (q : Parameter) (qs : List Parameter) : Type 0 where

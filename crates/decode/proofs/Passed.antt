@@ -1,7 +1,9 @@
 -- What the steps of a reading answered that came out without a fault.
-use Rattle.std.proofs.Common.{◌≡◌, ℕ, Bool, true, false, cond, eqb, Some, None, Ok, Err, Option, Result, sym, refl, ◌∙◌, subst, inl, inr, arith}
+use Rattle.std.proofs.Common.{◌≡◌, ℕ, Bool, true, false, cond, eqb, Some, None, Ok, Err, Option, Result, sym, refl, ap, ◌∙◌, subst, inl, inr, arith}
 use Rattle.std.proofs.lemmas.Bool.Decides.{eqb_tells}
 use Rattle.std.proofs.lemmas.Bool.{cond-true, cond-false}
+use Rattle.isup.specs.declared.row.Row.{Row}
+use Rattle.isup.specs.Rows.{has}
 use Rattle.decode.specs.declared.fault.MessageFault.{MessageFault}
 use Rattle.decode.specs.Faults.{then, or_value_fault}
 use Rattle.decode.specs.Values.{and_then}
@@ -47,3 +49,9 @@ by_number k n r s x is not e =
 -- what holds of one name, and of every other, holds of each
 pub by_name : (P : ℕ → Type 0) (n name : ℕ) → P name → ((n ≡ name → ⊥) → P n) → P n
 by_name P n name here elsewhere = elim (eqb_tells n name) [ inl t ↦ subst P (sym t.1) here | inr t ↦ elsewhere t.1 ]
+
+-- a name of a row is none that the row has not
+pub other : (row : Row) (n m : ℕ) → has row n ≡ true → has row m ≡ false → eqb n m ≡ false
+other row n m k f =
+    elim (eqb_tells n m)
+    [ inl t ↦ never (sym k ∙ ap (has row) t.1 ∙ f) | inr t ↦ t.0 ]
