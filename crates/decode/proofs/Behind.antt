@@ -14,7 +14,7 @@ use Rattle.decode.specs.Optional.{optional_from, nothing, repeated, collected, u
 use Rattle.decode.specs.Messages.{variable_in, optional_in, tail_in}
 use Rattle.decode.proofs.Parts.{without_places, parts_sound}
 use Rattle.decode.proofs.Fields.{gathered_field}
-use Rattle.decode.proofs.Passed.{never, no_answer, Both, both, by_number}
+use Rattle.decode.proofs.Passed.{Both, both, by_number}
 use Rattle.decode.proofs.Gathers.{carried, nothing_unmet}
 
 -- n octets from a place on, one by one
@@ -64,7 +64,7 @@ none_read r xs at end g z e =
 parts_read :
     {A B : Type 0} (r : Result A MessageFault) (f : A → Result B MessageFault) (y : B) → elim r as (λ _. Result B MessageFault) [ Ok x ↦ f x | Err g ↦ Err g ] ≡ Ok y → Both r f y
 parts_read (Ok x) f y e = both (Ok x) f y e
-parts_read (Err g) f y e = no_answer g y e
+parts_read (Err g) f y e = cc
 
 some_read :
     (r : Row) (xs : List ℕ) (at end : ℕ) (g : Gathered) → cond (eqb (get_or xs at 0) (end - at)) (optional_from r xs end) (Err (fault.Pointer at)) ≡ Ok g →
@@ -74,7 +74,7 @@ some_read r xs at end g e =
     let p = parts_read (parts_at xs end) (λ ps. unless_repeated (repeated r [] ps) (collected r nothing ps)) g a.1 in
     let s = parts_sound (length xs + 1) xs end p.value p.first in
     record {
-      part = record { there = true; parameters = without_places p.value; absent = never; named = s.1; carries = carried r g p.value p.next };
+      part = record { there = true; parameters = without_places p.value; absent = λ e. cc; named = s.1; carries = carried r g p.value p.next };
       pointer = eqb-true (get_or xs at 0) (end - at) a.0;
       octets = s.0;
     }

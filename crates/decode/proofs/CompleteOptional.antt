@@ -23,9 +23,6 @@ use Rattle.decode.proofs.Parts.{placed_from, parts_complete}
 use Rattle.decode.proofs.Fields.{gathered_field}
 use Rattle.decode.proofs.CompleteValues.{information_read, diversion_read, restriction_read}
 
-clash : {A B : Type 0} {x : A} {xs : List A} → x ∷ xs ≡ [] → B
-clash e = let z : ◌≡◌ {A = ℕ} 0 1 = cc in absurd (omega arith)
-
 -- one reading after another where the first succeeds
 pub then_ok : {A B : Type 0} (r : Result A MessageFault) (f : A → Result B MessageFault) (x : A) (y : Result B MessageFault) → r ≡ Ok x → f x ≡ y → then r f ≡ y
 then_ok r f x y e k = ap (λ s. then s f) e ∙ k
@@ -58,13 +55,13 @@ brought :
     {X Y : Type 0} (f : X → List ℕ) (o : Option X) (c : List ℕ) (r : Result Y MessageFault) (with : Y → Gathered) (g : Gathered) →
     ((x : X) → o ≡ Some x → c ≡ f x → (y : Y) × ((r ≡ Ok y) × (with y ≡ g))) → if_there f o ≡ c ∷ [] → then r (λ y. Ok (with y)) ≡ Ok g
 brought f (Some x) c r with g k e = let y = k x refl (cc) in then_ok r _ y.0 _ y.1.0 (ap (λ (h : Gathered). Ok h) y.1.1)
-brought f None c r with g k e = clash (sym e)
+brought f None c r with g k e = cc
 
 flag_brought : (b : Bool) (n : ℕ) (c : List ℕ) (at : ℕ) (h g : Gathered) → (b ≡ true → h ≡ g) → cond b ((n ∷ []) ∷ []) [] ≡ c ∷ [] → octet_at at c n h ≡ Ok g
 flag_brought true n c at h g k e =
     let one : c ≡ n ∷ [] = cc in
     ap (λ (l : List ℕ). octet_at at l n h) one ∙ cond-true (is_octet (n ∷ []) n) _ _ (eq-eqb n n refl) ∙ ap (λ (x : Gathered). Ok x) (k refl)
-flag_brought false n c at h g k e = clash (sym e)
+flag_brought false n c at h g k e = cc
 
 -- a name under which something stands is one of the eight
 brings : (names : List ℕ) (t : Gathered) (c : List ℕ) (at n : ℕ) → Brings names t c at n
@@ -79,7 +76,7 @@ brings names t c at n =
     by_name P n 0x36 (brought diversion_octets t.diversion c _ (with_diversion g) _ (λ x o s. (x, (value_read diversion_in diversion_octets diversion_read x c at s, cc)))) (λ n5.
     by_name P n 0x0C (brought plain t.redirection c _ (with_redirection g) _ (λ x o s. (record { number = x; restricted = false }, (number_read false _ c at (λ z. z) s, cc)))) (λ n6.
     by_name P n 0x40 (brought restriction_octets t.restriction c _ (with_restriction g) _ (λ x o s. (x, (value_read restriction_in restriction_octets restriction_read x c at s, cc)))) (λ n7 e.
-    clash (sym (let z : gathered_field t n ≡ [] = grind (arith, nat_tests) in sym z ∙ e))))))))))
+    let z : gathered_field t n ≡ [] = grind (arith, nat_tests) in cc))))))))
 
 -- no more than one content stands under a name
 there_once : {X : Type 0} (f : X → List ℕ) (o : Option X) → length (if_there f o) ≤ 1
@@ -108,12 +105,12 @@ alone x (y ∷ ys) l e h = absurd (omega (arith, ap length e))
 -- once all that t has was met, t is gathered
 kept : {X : Type 0} (b : Bool) (f : X → List ℕ) (o : Option X) → (b ≡ false → if_there f o ≡ []) → cond b o None ≡ o
 kept true f o h = refl
-kept false f (Some x) h = clash (h refl)
+kept false f (Some x) h = let e = h refl in cc
 kept false f None h = refl
 
 flag_kept : (b d : Bool) (c : List ℕ) → (b ≡ false → cond d (c ∷ []) [] ≡ []) → cond b d false ≡ d
 flag_kept true d c h = refl
-flag_kept false true c h = clash (h refl)
+flag_kept false true c h = let e = h refl in cc
 flag_kept false false c h = refl
 
 all_met : (names : List ℕ) (t : Gathered) → ((n : ℕ) → member n names ≡ false → gathered_field t n ≡ []) → only names t ≡ t
@@ -156,7 +153,7 @@ first row names t q qs k h =
     let a : q.1 ∷ contents q.0 qs ≡ cond (member q.0 names) [] (gathered_field t q.0) =
     sym (cond-true (eqb q.0 q.0) _ _ (eq-eqb q.0 q.0 refl)) ∙ h q.0 k in
     elim (cases_Bool (member q.0 names)) [
-      | inl m ↦ clash (a ∙ cond-true (member q.0 names) _ _ m)
+      | inl m ↦ (let e = a ∙ cond-true (member q.0 names) _ _ m in cc)
       | inr m ↦
           (let b : q.1 ∷ contents q.0 qs ≡ gathered_field t q.0 = a ∙ cond-false (member q.0 names) _ _ m in
           let z : contents q.0 qs ≡ [] = alone q.1 (contents q.0 qs) (gathered_field t q.0) b (once t q.0) in

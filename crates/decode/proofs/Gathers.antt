@@ -16,7 +16,7 @@ use Rattle.decode.specs.Faults.{then}
 use Rattle.decode.specs.Values.{is_octet}
 use Rattle.decode.specs.Parameters.{Part, known}
 use Rattle.decode.specs.Optional.{member, repeated, collected, nothing, octet_at, value_of, unless_repeated, with_redirecting, with_original, with_information, with_may_divert, with_announced, with_diversion, with_redirection, with_restriction}
-use Rattle.decode.proofs.Passed.{other, not_found, no_answer, value_found, both, by_name}
+use Rattle.decode.proofs.Passed.{other, value_found, both, by_name}
 use Rattle.decode.proofs.ValuesRead.{content_octets, plain_octets, information_octets_lem, diversion_octets_lem, restriction_octets_lem, lone_octet}
 use Rattle.decode.proofs.Parts.{without_places}
 use Rattle.decode.proofs.Fields.{gathered_field}
@@ -66,7 +66,7 @@ row_known Bare n e = grind (arith, nat_tests)
 
 unmet : (b : Bool) (place : ℕ) (o : Option ℕ) → cond b (Some place) o ≡ None → (b ≡ false) × (o ≡ None)
 unmet false place o e = (refl, e)
-unmet true place o e = not_found place (sym e)
+unmet true place o e = cc
 
 -- nothing stands under the names of the row that are not met yet
 abbrev Unmet : Row → List ℕ → Gathered → Type 0
@@ -116,4 +116,4 @@ carried row h ps e n k =
   where
     once : (o : Option ℕ) (r : Result (Gathered) MessageFault) → unless_repeated o r ≡ Ok h → (o ≡ None) × (r ≡ Ok h)
     once None r e = (refl, e)
-    once (Some place) r e = no_answer _ h e
+    once (Some place) r e = cc

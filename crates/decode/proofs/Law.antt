@@ -12,9 +12,6 @@ use Rattle.decode.proofs.Complete.{every_coding_is_read}
 abbrev Out : Type 0
 Out = Result (Circuit × Message Number) MessageFault
 
-apart : (f : MessageFault) (p : Circuit × Message Number) → ◌≡◌ {A = Out} (Err f) (Ok p) → ⊥
-apart f p e = let z : ◌≡◌ {A = ℕ} 0 1 = cc in omega arith
-
 pub read_as_coded : (xs : List ℕ) (r : Out) → Octets xs → r ≡ read_message xs → ReadAsCoded xs r
 read_as_coded xs (Ok p) o e = only_codings_are_read xs p.0 p.1 o (sym e)
-read_as_coded xs (Err f) o e = λ c m k. apart f (c, m) (e ∙ every_coding_is_read xs c m k)
+read_as_coded xs (Err f) o e = λ c m k. (let ok = e ∙ every_coding_is_read xs c m k in cc)

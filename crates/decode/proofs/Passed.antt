@@ -8,28 +8,18 @@ use Rattle.decode.specs.declared.fault.MessageFault.{MessageFault}
 use Rattle.decode.specs.Faults.{then, or_value_fault}
 use Rattle.decode.specs.Values.{and_then}
 
--- what cannot be
-pub never : {X : Type 0} → true ≡ false → X
-never e = absurd (let z : ◌≡◌ {A = ℕ} 0 1 = cc in omega arith)
-
-pub not_found : {A X : Type 0} (x : A) → None ≡ Some x → X
-not_found x e = absurd (let z : ◌≡◌ {A = ℕ} 0 1 = cc in omega arith)
-
-pub no_answer : {A E X : Type 0} (f : E) (x : A) → Err f ≡ Ok x → X
-no_answer f x e = absurd (let z : ◌≡◌ {A = ℕ} 0 1 = cc in omega arith)
-
 -- a value found behind a test, and one found after another
 pub found_passed : {A : Type 0} (b : Bool) (o : Option A) (x : A) → cond b o None ≡ Some x → (b ≡ true) × (o ≡ Some x)
 found_passed true o x e = (refl, e)
-found_passed false o x e = not_found x e
+found_passed false o x e = cc
 
 pub found_after : {A B : Type 0} (o : Option A) (f : A → Option B) (y : B) → and_then o f ≡ Some y → (x : A) × ((o ≡ Some x) × (f x ≡ Some y))
 found_after (Some x) f y e = (x, (refl, e))
-found_after None f y e = not_found y e
+found_after None f y e = cc
 
 pub value_found : {A : Type 0} (o : Option A) (place : ℕ) (x : A) → or_value_fault o place ≡ Ok x → o ≡ Some x
 value_found (Some y) place x e = cc
-value_found None place x e = no_answer _ x e
+value_found None place x e = cc
 
 -- one reading after another
 pub record Both {A B : Type 0} (r : Result A MessageFault) (f : A → Result B MessageFault) (y : B) : Type 0 where
@@ -39,7 +29,7 @@ pub record Both {A B : Type 0} (r : Result A MessageFault) (f : A → Result B M
 
 pub both : {A B : Type 0} (r : Result A MessageFault) (f : A → Result B MessageFault) (y : B) → then r f ≡ Ok y → Both r f y
 both (Ok x) f y e = record { value = x; first = refl; next = e }
-both (Err g) f y e = no_answer g y e
+both (Err g) f y e = cc
 
 -- one of two readings, by a number
 pub by_number : {A P : Type 0} (k n : ℕ) (r s : Result A MessageFault) (x : A) → (k ≡ n → r ≡ Ok x → P) → (s ≡ Ok x → P) → cond (eqb k n) r s ≡ Ok x → P
@@ -54,4 +44,4 @@ by_name P n name here elsewhere = elim (eqb_tells n name) [ inl t ↦ subst P (s
 pub other : (row : Row) (n m : ℕ) → has row n ≡ true → has row m ≡ false → eqb n m ≡ false
 other row n m k f =
     elim (eqb_tells n m)
-    [ inl t ↦ never (sym k ∙ ap (has row) t.1 ∙ f) | inr t ↦ t.0 ]
+    [ inl t ↦ (let e = sym k ∙ ap (has row) t.1 ∙ f in cc) | inr t ↦ t.0 ]

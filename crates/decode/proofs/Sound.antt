@@ -28,7 +28,7 @@ use Rattle.decode.specs.Messages.{octet_in, exact_in, variable_in, optional_in, 
 use Rattle.decode.specs.Reading.{OnlyCodingsAreRead}
 use Rattle.decode.proofs.ValuesRead.{cause_octets, plain_octets}
 use Rattle.decode.proofs.Fields.{gathered_field}
-use Rattle.decode.proofs.Passed.{never, no_answer, value_found, both, by_number, by_name}
+use Rattle.decode.proofs.Passed.{value_found, both, by_number, by_name}
 use Rattle.decode.proofs.Behind.{octets_from, one_by_one, BehindRead, tail_read, with_variable}
 
 octet_read : (xs : List ℕ) (at n : ℕ) → octet_in xs at ≡ Ok n → get_or xs at 0 ≡ n
@@ -45,10 +45,10 @@ all_or_none_lem :
     ((x : A) (y : B) (z : C) → P (Some x) (Some y) (Some z) (Some (f x y z))) → P None None None None →
     (a : Option A) (b : Option B) (c : Option C) (n : ℕ) (d : Option D) → all_or_none f a b c n ≡ Ok d → P a b c d
 all_or_none_lem f P all none (Some x) (Some y) (Some z) n d e = let is : Some (f x y z) ≡ d = cc in subst (P (Some x) (Some y) (Some z)) is (all x y z)
-all_or_none_lem f P all none (Some x) (Some y) None n d e = no_answer _ d e
-all_or_none_lem f P all none (Some x) None c n d e = no_answer _ d e
-all_or_none_lem f P all none None (Some y) c n d e = no_answer _ d e
-all_or_none_lem f P all none None None (Some z) n d e = no_answer _ d e
+all_or_none_lem f P all none (Some x) (Some y) None n d e = cc
+all_or_none_lem f P all none (Some x) None c n d e = cc
+all_or_none_lem f P all none None (Some y) c n d e = cc
+all_or_none_lem f P all none None None (Some z) n d e = cc
 all_or_none_lem f P all none None None None n d e = let is : None ≡ d = cc in subst (P None None None) is none
 
 -- what stands under the names of a row is what the message calls for
@@ -188,7 +188,7 @@ release xs m kind e =
     (record {
       gathered = o.value;
       head = cc;
-      fields = λ n k. never (sym k);
+      fields = λ n k. cc;
       rest = with_variable row.Bare xs 3 v.value _ o.value v.first o.first
           (cause_octets v.value c.value (value_found (cause_from v.value) 5 c.value c.first));
     })
@@ -200,7 +200,7 @@ message_read xs m =
     (by_number (get_or xs 2 0) 0x2C (call_progress_in xs) _ m (call_progress xs m)
     (by_number (get_or xs 2 0) 0x09 (answer_in xs) _ m (answer xs m)
     (by_number (get_or xs 2 0) 0x07 (connect_in xs) _ m (connect xs m)
-    (by_number (get_or xs 2 0) 0x0C (release_in xs) (Err fault.Kind) m (release xs m) (no_answer fault.Kind m))))))
+    (by_number (get_or xs 2 0) 0x0C (release_in xs) (Err fault.Kind) m (release xs m) (λ e. cc))))))
 
 circuit_read : (low high : ℕ) (c : Circuit) → low ≤ 255 → circuit_from low high ≡ Some c → low ∷ high ∷ [] ≡ circuit_octets c
 circuit_read low high c octet e =

@@ -17,7 +17,7 @@ use Rattle.isup.specs.Coding.{information_octets, diversion_octets, restriction_
 use Rattle.isup.proofs.Coded.{code_of_found, number_of_ranged}
 use Rattle.decode.specs.Values.{is_octet, information_in, diversion_in, restriction_in, cause_from}
 use Rattle.decode.specs.Optional.{number_at}
-use Rattle.decode.proofs.Passed.{no_answer, found_passed, found_after}
+use Rattle.decode.proofs.Passed.{found_passed, found_after}
 
 one : (c : List ℕ) (x : ℕ) → length c ≡ 1 → get_or c 0 0 ≡ x → c ≡ x ∷ []
 one [] x l e = absurd (omega arith)
@@ -79,7 +79,7 @@ number_coded may c place p e = let r = read (read_number may c) e in (sound may 
   where
     read : (r : Result (Party Number × ℕ) NumberFault) → number_at place r ≡ Ok p → (used : ℕ) × (r ≡ Ok (p, used))
     read (Ok q) e = (q.1, ap (λ (x : Party Number). Ok (x, q.1)) (let is : q.0 ≡ p = cc in is))
-    read (Err f) e = no_answer _ p e
+    read (Err f) e = cc
 
 pub content_octets : (c : List ℕ) (place : ℕ) (p : Party Number) → number_at place (read_number true c) ≡ Ok p → c ≡ content p
 content_octets c place p e = (number_coded true c place p e).same
