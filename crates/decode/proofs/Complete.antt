@@ -108,27 +108,21 @@ tail_read :
     (row : Row) (t : Gathered) (field : ℕ → List (List ℕ)) (here : Bool) (qs : List Parameter) → Fits row t field → Carried row field here qs →
     (xs : List ℕ) (at : ℕ) → at < length xs → get_or xs at 0 ≡ cond here (at + 1 - at) 0 → drop (at + 1) xs ≡ optional_octets here qs → tail_in row xs at ≡ Ok t
 tail_read row t field here qs f c xs at h p e =
-    cond-false (leb (length xs) at) _ _ (let z : leb (length xs) at ≡ false = grind (arith, nat_tests) in z)
-    ∙ carried_read row t field here qs f c xs at (at + 1) (omega arith) p e
+    cond-false (leb (length xs) at) _ _ (grind (arith, nat_tests)) ∙ carried_read row t field here qs f c xs at (at + 1) (omega arith) p e
 
 -- octets that are there
 octet_read : (xs : List ℕ) (at : ℕ) → at < length xs → octet_in xs at ≡ Ok (get_or xs at 0)
-octet_read xs at h = cond-false (leb (length xs) at) _ _ (let z : leb (length xs) at ≡ false = grind (arith, nat_tests) in z)
+octet_read xs at h = grind (arith, nat_tests)
 
 exact_read : (xs : List ℕ) (at n : ℕ) → at < length xs → get_or xs at 0 ≡ n → exact_in xs at n ≡ Ok tt
-exact_read xs at n h e =
-    cond-false (leb (length xs) at) _ _ (let z : leb (length xs) at ≡ false = grind (arith, nat_tests) in z)
-    ∙ cond-true (eqb (get_or xs at 0) n) _ _ (eq-eqb (get_or xs at 0) n e)
+exact_read xs at n h e = grind (arith, nat_tests)
 
 variable_read :
     (xs v rest : List ℕ) (at : ℕ) → get_or xs at 0 ≡ 2 → get_or xs (at + 2) 0 ≡ length v → drop (at + 3) xs ≡ v ++ rest → at + 3 + length v ≤ length xs →
     variable_in xs at ≡ Ok v
 variable_read xs v rest at p l e h =
-    cond-false (leb (length xs) at) _ _ (let z : leb (length xs) at ≡ false = grind (arith, nat_tests) in z)
-    ∙ cond-true (eqb (get_or xs at 0) 2) _ _ (eq-eqb (get_or xs at 0) 2 p)
-    ∙ cond-false (leb (length xs) (at + 2)) _ _ (let z : leb (length xs) (at + 2) ≡ false = grind (arith, nat_tests) in z)
-    ∙ cond-false (ltb (length xs) (at + 3 + get_or xs (at + 2) 0)) _ _ (let z : ltb (length xs) (at + 3 + get_or xs (at + 2) 0) ≡ false = grind (arith, nat_tests) in z)
-    ∙ ap (λ (ys : List ℕ). Ok (take (get_or xs (at + 2) 0) ys)) e ∙ ap (λ (ys : List ℕ). Ok ys) (take_at v rest (get_or xs (at + 2) 0) (sym l))
+    let cut : take (get_or xs (at + 2) 0) (drop (at + 3) xs) ≡ v = ap (take (get_or xs (at + 2) 0)) e ∙ take_at v rest (get_or xs (at + 2) 0) (sym l) in
+    grind (arith, nat_tests)
 
 -- behind a variable field
 behind_variable : (xs v rest : List ℕ) (at : ℕ) → drop at xs ≡ v ++ rest → drop (at + length v) xs ≡ rest
@@ -231,8 +225,7 @@ octets_read :
 octets_read c m here qs h k =
     let xs = octets_of c m here qs in
     let l = long_enough c m here qs in
-    cond-false (ltb (length xs) 3) _ _ (let z : ltb (length xs) 3 ≡ false = grind (arith, nat_tests) in z)
-    ∙ cond-false (ltb 255 (length xs)) _ _ (let z : ltb 255 (length xs) ≡ false = grind (arith, nat_tests) in z)
+    cond-false (ltb (length xs) 3) _ _ (grind (arith, nat_tests)) ∙ cond-false (ltb 255 (length xs)) _ _ (grind (arith, nat_tests))
     ∙ then_ok (or_value_fault (circuit_from (get_or xs 0 0) (get_or xs 1 0)) 0) _ c _ (ap (λ o. or_value_fault o 0) (circuit_read c))
     (then_ok (message_in xs) _ m _ (message_read c here qs m k) refl)
 

@@ -203,7 +203,7 @@ few_parameters [] = omega arith
 few_parameters (q ∷ qs) = let l = few_parameters qs in let a = length-append q.1 (encoded qs) in omega arith
 
 abbrev Out : Type 0
-Out = Result (Gathered) MessageFault
+Out = Result Gathered MessageFault
 
 abbrev after_parts : Row → Result (List Part) MessageFault → Out
 after_parts row r = elim r as (λ _. Out) [ Ok ps ↦ unless_repeated (repeated row [] ps) (collected row nothing ps) | Err f ↦ Err f ]
@@ -226,11 +226,11 @@ pub optional_read :
     drop end xs ≡ optional_octets here qs → (here ≡ false → qs ≡ []) → Named qs → Within row t →
     ((n : ℕ) → has row n ≡ true → contents n qs ≡ gathered_field t n) → optional_in row xs at end ≡ Ok t
 optional_read row t xs at end true qs lt p e b o w h =
-    cond-false (eqb (get_or xs at 0) 0) _ _ (let z : eqb (get_or xs at 0) 0 ≡ false = grind (arith, nat_tests) in z)
-    ∙ cond-true (eqb (get_or xs at 0) (end - at)) _ _ (eq-eqb (get_or xs at 0) (end - at) p) ∙ part_read row t xs end qs e o w h
+    cond-false (eqb (get_or xs at 0) 0) _ _ (grind (arith, nat_tests)) ∙ cond-true (eqb (get_or xs at 0) (end - at)) _ _ (eq-eqb (get_or xs at 0) (end - at) p)
+    ∙ part_read row t xs end qs e o w h
 optional_read row t xs at end false qs lt p e b o w h =
     let d = length-drop end xs in
     let s = ap length e in
     cond-true (eqb (get_or xs at 0) 0) _ _ (eq-eqb (get_or xs at 0) 0 p)
-    ∙ cond-false (ltb end (length xs)) _ _ (let z : ltb end (length xs) ≡ false = grind (arith, nat_tests) in z)
+    ∙ cond-false (ltb end (length xs)) _ _ (grind (arith, nat_tests))
     ∙ (gathers row [] t at [] w (λ n k. ap (contents n) (sym (b refl)) ∙ h n k)).gathered

@@ -114,6 +114,6 @@ carried row h ps e n k =
     sym (gathers row [] nothing h ps u.0 u.1 (nothing_unmet row) n k
     ∙ ap (λ (l : List (List ℕ)). l ++ contents n (without_places ps)) (nothing_unmet row n refl k))
   where
-    once : (o : Option ℕ) (r : Result (Gathered) MessageFault) → unless_repeated o r ≡ Ok h → (o ≡ None) × (r ≡ Ok h)
+    once : (o : Option ℕ) (r : Result Gathered MessageFault) → unless_repeated o r ≡ Ok h → (o ≡ None) × (r ≡ Ok h)
     once None r e = (refl, e)
     once (Some place) r e = cc

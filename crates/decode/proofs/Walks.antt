@@ -15,7 +15,7 @@ use Rattle.decode.specs.Parameters.{Part, Step, closed, given, refused, step_at,
 use Rattle.decode.specs.Optional.{member, repeated, collected, unless_repeated, nothing, start, value_of, keep_of, add_of, walk_after, met_after, end_of, optional_from}
 
 abbrev Out : Type 0
-Out = Result (Gathered) MessageFault
+Out = Result Gathered MessageFault
 
 abbrev run : Row → List Bool → Walk → List Part → Out
 run row met s [] = end_of s

@@ -38,13 +38,13 @@ variable_in xs at =
     (Err (fault.Pointer at)))
 
 -- the optional part, or none, by the pointer at a place and the end of the mandatory part, which it follows at once
-abbrev pub optional_in : Row → List ℕ → ℕ → ℕ → Result (Gathered) MessageFault
+abbrev pub optional_in : Row → List ℕ → ℕ → ℕ → Result Gathered MessageFault
 optional_in r xs at end =
     cond (slice_index xs at == 0) (cond (nat_lt end (length xs)) (Err (fault.Pointer end)) (Ok nothing))
     (cond (slice_index xs at == end - at) (optional_from r xs end) (Err (fault.Pointer at)))
 
 -- the same in a message without a variable field, where the pointer ends the mandatory part
-abbrev pub tail_in : Row → List ℕ → ℕ → Result (Gathered) MessageFault
+abbrev pub tail_in : Row → List ℕ → ℕ → Result Gathered MessageFault
 tail_in r xs at = cond (nat_le (length xs) at) (Err (fault.Missing at)) (optional_in r xs at (at + 1))
 
 -- three parts that stand all or none; n is the length of the message

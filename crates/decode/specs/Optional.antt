@@ -70,11 +70,11 @@ abbrev pub with_restriction : Gathered → Restriction → Gathered
 with_restriction g x = record { redirecting = g.redirecting; original = g.original; information = g.information; may_divert = g.may_divert; announced = g.announced; diversion = g.diversion; redirection = g.redirection; restriction = Some x }
 
 -- a content that can be but one octet
-abbrev pub octet_at : ℕ → List ℕ → ℕ → Gathered → Result (Gathered) MessageFault
+abbrev pub octet_at : ℕ → List ℕ → ℕ → Gathered → Result Gathered MessageFault
 octet_at place c n g = cond (is_octet c n) (Ok g) (Err (fault.Value place None))
 
 -- the value of one parameter, beside those of others: only redirecting and original called numbers may be restricted
-abbrev pub value_of : Gathered → Part → Result (Gathered) MessageFault
+abbrev pub value_of : Gathered → Part → Result Gathered MessageFault
 value_of g p =
     cond (p.name == 0x0B) (then (number_at p.place (read_number true p.content)) (λ x. Ok (with_redirecting g x)))
     (cond (p.name == 0x28) (then (number_at p.place (read_number true p.content)) (λ x. Ok (with_original g x)))
@@ -87,15 +87,15 @@ value_of g p =
     (Ok g))))))))
 
 -- the values of the row's parameters in their order, or the first fault; other names are passed over
-abbrev pub collected : Row → Gathered → List Part → Result (Gathered) MessageFault
+abbrev pub collected : Row → Gathered → List Part → Result Gathered MessageFault
 collected row g [] = Ok g
 collected row g (p ∷ ps) = cond (has row p.name) (then (value_of g p) (λ h. collected row h ps)) (collected row g ps)
 
-abbrev pub unless_repeated : Option ℕ → Result (Gathered) MessageFault → Result (Gathered) MessageFault
+abbrev pub unless_repeated : Option ℕ → Result Gathered MessageFault → Result Gathered MessageFault
 unless_repeated (Some place) r = Err (fault.Repeated place)
 unless_repeated None r = r
 
-abbrev pub optional_from : Row → List ℕ → ℕ → Result (Gathered) MessageFault
+abbrev pub optional_from : Row → List ℕ → ℕ → Result Gathered MessageFault
 optional_from row octets at =
     elim (parts_at octets at) [
       | Ok ps ↦ unless_repeated (repeated row [] ps) (collected row nothing ps)
@@ -106,7 +106,7 @@ optional_from row octets at =
 abbrev pub start : Walk
 start = record { gathered = nothing; fault = None; again = None }
 
-abbrev pub keep_of : Walk → Result (Gathered) MessageFault → Walk
+abbrev pub keep_of : Walk → Result Gathered MessageFault → Walk
 keep_of s (Ok g) = record { gathered = g; fault = s.fault; again = s.again }
 keep_of s (Err f) = record { gathered = s.gathered; fault = Some f; again = s.again }
 
@@ -125,5 +125,5 @@ walk_after row met s p = cond (has row p.name) (add_of s p (slice_index_or met p
 abbrev pub met_after : Row → List Bool → Part → List Bool
 met_after row met p = cond (has row p.name) (slice_set met p.name true) met
 
-abbrev pub end_of : Walk → Result (Gathered) MessageFault
+abbrev pub end_of : Walk → Result Gathered MessageFault
 end_of s = elim s.again [ Some place ↦ Err (fault.Repeated place) | None ↦ elim s.fault [ Some f ↦ Err f | None ↦ Ok s.gathered ] ]
