@@ -31,6 +31,7 @@ impl MessageFault {
     pub fn number(self) -> u8
         ensures { result ≡ fault_number self }
     {
+        // A table, since `self as u8` wants cases that hold nothing.
         match self {
             MessageFault::Length => 1,
             MessageFault::Kind => 2,

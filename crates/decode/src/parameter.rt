@@ -15,7 +15,8 @@ pub enum OptionalParameter<'a> {
     Diversion(&'a [u8], usize),
     Redirection(&'a [u8], usize),
     Restriction(&'a [u8], usize),
-    // A name that no message knows.
+    // A name that no message knows. That `next` puts no other here is its promise and no invariant of a type for such names:
+    // anyone may make a value of any name, and a narrower type would ask more of those who do.
     Foreign(u8, &'a [u8], usize),
 }
 
@@ -53,7 +54,7 @@ impl<'a> OptionalParameter<'a> {
     }
 }
 
-// The case of a name.
+// The case of a name. Behind it no name is an octet: the cases stand for the names, and hold what they lend.
 fn named<'a>(name: u8, content: &'a [u8], at: usize) -> OptionalParameter<'a>
     ensures name { (part_of result).name ≡ name }
     ensures content { (part_of result).content ≡ content.now }
@@ -97,10 +98,8 @@ impl<'a> OptionalPart<'a> {
         ensures same { self.new.octets.now ≡ self.old.octets.now }
     {
         let at = self.place;
-        if at > self.octets.len() {
-            return Err(MessageFault::Optional(at));
-        }
-        match &self.octets[at..] {
+        let left = self.octets.get(at..).ok_or(MessageFault::Optional(at))?;
+        match left {
             [0] => {
                 self.place = at + 1;
                 Ok(None)
@@ -108,10 +107,7 @@ impl<'a> OptionalPart<'a> {
             [0, ..] => Err(MessageFault::Optional(at)),
             [name, length, rest @ ..] => {
                 let n = *length as usize;
-                if n > rest.len() {
-                    return Err(MessageFault::Optional(at));
-                }
-                let content = &rest[0..n];
+                let content = rest.get(..n).ok_or(MessageFault::Optional(at))?;
                 self.place = at + 2 + n;
                 Ok(Some(named(*name, content, at)))
             }
