@@ -35,8 +35,6 @@ pub(crate) struct Walk {
 
 impl Gathered {
     // Takes the value of one parameter beside those of others; a fault changes nothing.
-    // Written into its callers it takes a tenth more instructions, since what is gathered then lies in registers.
-    #[inline(never)]
     fn gather(&mut self, p: OptionalParameter) -> Result<(), MessageFault>
         requires { InItsCase p }
         ensures value { MatchResult result (λ _. value_of self.old (part_of p.entry) ≡ Ok self.new) (λ f. value_of self.old (part_of p.entry) ≡ Err f) }
@@ -83,7 +81,9 @@ impl Gathered {
 }
 
 impl Walk {
-    // Goes over one parameter more of the row, told whether its name was met before.
+    // Goes over one parameter more of the row, told whether its name was met before. Where it is inlined the walk is kept in
+    // registers and moved about, which takes a tenth more instructions.
+    #[inline(never)]
     fn add(&mut self, p: OptionalParameter, met: bool)
         requires { InItsCase p }
         ensures { self.new ≡ add_of self.old (part_of p.entry) met }

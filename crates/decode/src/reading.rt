@@ -129,7 +129,8 @@ fn release(octets: &[u8]) -> Result<Message, MessageFault>
     Ok(Message::Release(cause))
 }
 
-// The message of the type octet.
+// The message of the type octet. Where it is inlined each message is copied once more.
+#[inline(never)]
 fn message(octets: &[u8]) -> Result<Message, MessageFault>
     requires { 3 ≤ length octets.now }
     ensures { result ≡ message_in octets.now }
