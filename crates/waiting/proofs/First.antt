@@ -1,19 +1,7 @@
--- The first that fits: found step by step, and what its place tells.
-use Rattle.std.proofs.Common.{◌≡◌, ℕ, suc, ◌+◌, ◌<◌, ◌≤◌, Bool, true, false, cond, List, [], ◌∷◌, length, get_or, drop, Some, None, sym, refl, ap, ◌∙◌, arith}
-use Rattle.std.specs.List.{slice_get as nth, remove as removed}
-use Rattle.std.proofs.lemmas.List.{at_drop_more, at_drop_all}
-use Rattle.waiting.specs.Items.{first_from, first_fit, earliest, without_earliest}
-
-pub first_more :
-    {X : Type 0} (p : X → Bool) (xs : List X) (i : ℕ) (x : X) (b : Bool) → i < length xs → x ≡ get_or xs i x → p x ≡ b →
-    first_from p i (drop i xs) ≡ cond b (Some i) (first_from p (i + 1) (drop (i + 1) xs))
-first_more p xs i x b h e t =
-    at_drop_more (λ l. first_from p i l) xs i x h
-    ∙ ap (λ v. first_from p i (v ∷ drop (i + 1) xs)) (sym e)
-    ∙ ap (λ v. cond v (Some i) (first_from p (i + 1) (drop (i + 1) xs))) t
-
-pub first_none : {X : Type 0} (p : X → Bool) (xs : List X) (i : ℕ) → length xs ≤ i → first_from p i (drop i xs) ≡ None
-first_none p xs i h = at_drop_all (λ l. first_from p i l) xs i h
+-- The first that fits: what its place tells.
+use Rattle.std.proofs.Common.{◌≡◌, ℕ, suc, ◌+◌, Bool, true, false, cond, List, [], ◌∷◌, Some, None, sym, refl, ap, ◌∙◌, arith}
+use Rattle.std.specs.List.{slice_get as nth, remove as removed, position_from}
+use Rattle.waiting.specs.Items.{first_fit, earliest, without_earliest}
 
 -- what a place that was found tells: its element is the earliest, and the rest is the list without that
 pub record Found {X : Type 0} (p : X → Bool) (xs : List X) (n i : ℕ) : Type 0 where
@@ -24,8 +12,8 @@ pub record Found {X : Type 0} (p : X → Bool) (xs : List X) (n i : ℕ) : Type 
 
 found_by :
     {X : Type 0} (p : X → Bool) (y : X) (ys : List X) (n i : ℕ) (b : Bool) → p y ≡ b →
-    Some i ≡ cond b (Some n) (first_from p (n + 1) ys) →
-    (Some i ≡ first_from p (n + 1) ys → Found p ys (n + 1) i) → Found p (y ∷ ys) n i
+    Some i ≡ cond b (Some n) (position_from p (n + 1) ys) →
+    (Some i ≡ position_from p (n + 1) ys → Found p ys (n + 1) i) → Found p (y ∷ ys) n i
 found_by p y ys n i true t e ih = record {
   at = 0;
   is = (let q : n ≡ i = cc in omega arith);
@@ -41,7 +29,7 @@ found_by p y ys n i false t e ih =
       leaves = ap (λ l. y ∷ l) r.leaves ∙ sym (ap (λ b. cond b ys (y ∷ without_earliest p ys)) t);
     }
 
-found : {X : Type 0} (p : X → Bool) (xs : List X) (n i : ℕ) → Some i ≡ first_from p n xs → Found p xs n i
+found : {X : Type 0} (p : X → Bool) (xs : List X) (n i : ℕ) → Some i ≡ position_from p n xs → Found p xs n i
 found p [] n i e = absurd (let z : ◌≡◌ {A = ℕ} 0 1 = cc in omega arith)
 found p (y ∷ ys) n i e = found_by p y ys n i (p y) refl e (λ q. found p ys (n + 1) i q)
 
@@ -62,14 +50,14 @@ pub record Missing {X : Type 0} (p : X → Bool) (xs : List X) : Type 0 where
 
 missing_by :
     {X : Type 0} (p : X → Bool) (y : X) (ys : List X) (n : ℕ) (b : Bool) → p y ≡ b →
-    None ≡ cond b (Some n) (first_from p (n + 1) ys) →
-    (None ≡ first_from p (n + 1) ys → Missing p ys) → Missing p (y ∷ ys)
+    None ≡ cond b (Some n) (position_from p (n + 1) ys) →
+    (None ≡ position_from p (n + 1) ys → Missing p ys) → Missing p (y ∷ ys)
 missing_by p y ys n true t e ih = absurd (let z : ◌≡◌ {A = ℕ} 0 1 = cc in omega arith)
 missing_by p y ys n false t e ih = record {
   answers = (ih e).answers ∙ sym (ap (λ b. cond b (Some y) (earliest p ys)) t);
   leaves = ap (λ l. y ∷ l) (ih e).leaves ∙ sym (ap (λ b. cond b ys (y ∷ without_earliest p ys)) t);
 }
 
-pub missing : {X : Type 0} (p : X → Bool) (xs : List X) (n : ℕ) → None ≡ first_from p n xs → Missing p xs
+pub missing : {X : Type 0} (p : X → Bool) (xs : List X) (n : ℕ) → None ≡ position_from p n xs → Missing p xs
 missing p [] n e = record { answers = refl; leaves = refl }
 missing p (y ∷ ys) n e = missing_by p y ys n (p y) refl e (λ q. missing p ys (n + 1) q)
