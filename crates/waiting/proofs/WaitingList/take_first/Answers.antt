@@ -1,12 +1,16 @@
 use Rattle.std.proofs.Common.{ap, ◌∙◌}
 use Rattle.waiting.specs.Items.{holding}
-use Rattle.waiting.proofs.First.{found_answers, found_leaves, missing}
+use Rattle.waiting.proofs.First.{found_answers, found_leaves, missing_answers, missing_leaves}
 use Rattle.waiting.proofs.WaitingList.take_first.Goals as goal
 
 pub returns-in_err-i : goal.returns-in_err-i
 returns-in_err-i g c =
-    let none = missing (g.Q.Question.fits c.args.question.now) c.args.self.now.items 0 c.in_err-i.ensures in
-    record { answer = c.from_residual.ensures ∙ none.answers; after = ap (holding c.args.self.now) none.leaves }
+    let fits = g.Q.Question.fits c.args.question.now in
+    let xs = c.args.self.now.items in
+    record {
+      answer = c.from_residual.ensures ∙ missing_answers fits xs c.in_err-i.ensures;
+      after = ap (holding c.args.self.now) (missing_leaves fits xs c.in_err-i.ensures);
+    }
 
 pub returns : goal.returns
 returns g c =
