@@ -1,76 +1,76 @@
 -- One step of moving, and its end.
-use Rattle.std.proofs.Common.{◌≡◌, ℕ, zero, suc, ◌+◌, ◌<◌, Bool, true, false, cond, List, [], ◌∷◌, ◌++◌, length, take, Some, None, filter, sym, refl, ap, ◌∙◌, arith}
-use Rattle.std.proofs.lemmas.List.{append_assoc, append-nil, take_all}
+use Rattle.std.proofs.Common.{◌≡◌, ℕ, zero, suc, ◌<◌, Bool, List, [], ◌∷◌, ◌++◌, take, Some, None, filter, sym, refl, ap, subst, ◌∙◌, arith}
+use Rattle.std.proofs.lemmas.List.{append_assoc, append-nil, length_push, take_all}
 use Rattle.std.proofs.lemmas.Bool.Decides.{nat_tests}
-use Rattle.waiting.specs.Items.{added, is_full, earliest, without_earliest}
-use Rattle.carriage.specs.Moved.{without_first, with_first}
-
-first_kept_by :
-    {X : Type 0} (p : X → Bool) (y : X) (ys : List X) (e : X) (b : Bool) → p y ≡ b →
-    Some e ≡ cond b (Some y) (earliest p ys) →
-    (Some e ≡ earliest p ys → filter p ys ≡ e ∷ filter p (without_earliest p ys)) →
-    filter p (y ∷ ys) ≡ e ∷ filter p (without_earliest p (y ∷ ys))
-first_kept_by p y ys e true t q ih =
-    let w = without_earliest p ys in
-    let same : y ≡ e = cc in
-    ap (λ b. cond b (y ∷ filter p ys) (filter p ys)) t
-    ∙ ap (λ v. v ∷ filter p ys) same
-    ∙ sym (ap (λ b. e ∷ filter p (cond b ys (y ∷ w))) t)
-first_kept_by p y ys e false t q ih =
-    let w = without_earliest p ys in
-    ap (λ b. cond b (y ∷ filter p ys) (filter p ys)) t
-    ∙ ih q
-    ∙ sym (ap (λ b. e ∷ cond b (y ∷ filter p w) (filter p w)) t)
-    ∙ sym (ap (λ b. e ∷ filter p (cond b ys (y ∷ w))) t)
+use Rattle.waiting.specs.Items.{Waiting, holding, added, earliest, without_earliest}
+use Rattle.carriage.specs.Moved.{without_first, with_first, free_of, left_behind, moved_onto}
 
 -- the earliest that fits is the first of those that fit
 first_kept :
     {X : Type 0} (p : X → Bool) (xs : List X) (e : X) → Some e ≡ earliest p xs →
     filter p xs ≡ e ∷ filter p (without_earliest p xs)
-first_kept p [] e q = absurd (let z : ◌≡◌ {A = ℕ} 0 1 = cc in omega arith)
-first_kept p (y ∷ ys) e q = first_kept_by p y ys e (p y) refl q (λ r. first_kept p ys e r)
+first_kept p [] e q = cc
+first_kept p (y ∷ ys) e q = grind (arith, first_kept p ys e)
 
-record Nothing {X : Type 0} (p : X → Bool) (xs : List X) : Type 0 where
-  pub kept : filter p xs ≡ []
-  pub whole : without_earliest p xs ≡ xs
+-- where none fits, none is among those that fit, and none is taken
+none_kept : {X : Type 0} (p : X → Bool) (xs : List X) → None ≡ earliest p xs → filter p xs ≡ []
+none_kept p [] q = refl
+none_kept p (y ∷ ys) q = grind (arith, none_kept p ys)
 
-nothing_by :
-    {X : Type 0} (p : X → Bool) (y : X) (ys : List X) (b : Bool) → p y ≡ b →
-    None ≡ cond b (Some y) (earliest p ys) → (None ≡ earliest p ys → Nothing p ys) → Nothing p (y ∷ ys)
-nothing_by p y ys true t q ih = absurd (let z : ◌≡◌ {A = ℕ} 0 1 = cc in omega arith)
-nothing_by p y ys false t q ih = record {
-  kept = ap (λ b. cond b (y ∷ filter p ys) (filter p ys)) t ∙ (ih q).kept;
-  whole = ap (λ b. cond b ys (y ∷ without_earliest p ys)) t ∙ ap (λ l. y ∷ l) (ih q).whole;
-}
-
-nothing : {X : Type 0} (p : X → Bool) (xs : List X) → None ≡ earliest p xs → Nothing p xs
-nothing p [] q = record { kept = refl; whole = refl }
-nothing p (y ∷ ys) q = nothing_by p y ys (p y) refl q (λ r. nothing p ys r)
+none_taken : {X : Type 0} (p : X → Bool) (xs : List X) → None ≡ earliest p xs → without_earliest p xs ≡ xs
+none_taken p [] q = refl
+none_taken p (y ∷ ys) q = grind (arith, none_taken p ys)
 
 -- where none fits, nothing is left out, however many were to be
-pub none_left : {X : Type 0} (p : X → Bool) (n : ℕ) (xs : List X) → None ≡ earliest p xs → without_first p n xs ≡ xs
-none_left p zero xs q = refl
-none_left p (suc n) xs q = ap (without_first p n) (nothing p xs q).whole ∙ none_left p n xs q
+none_left_out : {X : Type 0} (p : X → Bool) (n : ℕ) (xs : List X) → None ≡ earliest p xs → without_first p n xs ≡ xs
+none_left_out p zero xs q = refl
+none_left_out p (suc n) xs q = ap (without_first p n) (none_taken p xs q) ∙ none_left_out p n xs q
 
-pub none_taken : {X : Type 0} (p : X → Bool) (xs : List X) → None ≡ earliest p xs → without_earliest p xs ≡ xs
-none_taken p xs q = (nothing p xs q).whole
+-- where none fits, the source without its earliest is the source, all of it is left, and none is moved
+pub record AllMoved {X : Type 0} (p : X → Bool) (s t : Waiting X) : Type 0 where
+  pub whole : holding s (without_earliest p s.items) ≡ s
+  pub left : left_behind p s t ≡ s
+  pub moved : moved_onto p s t ≡ t
 
--- where none fits, none is added
-pub none_moved : {X : Type 0} (p : X → Bool) (n : ℕ) (xs ys : List X) → None ≡ earliest p xs → with_first p n xs ys ≡ ys
-none_moved p n xs ys q =
-    ap (λ l. ys ++ take n l) (nothing p xs q).kept ∙ ap (λ l. ys ++ l) (take_all n [] (omega arith)) ∙ append-nil ys
+pub all_moved : {X : Type 0} (p : X → Bool) (s t : Waiting X) → None ≡ earliest p s.items → AllMoved p s t
+all_moved p s t q = record {
+  whole = ap (holding s) (none_taken p s.items q);
+  left = ap (holding s) (none_left_out p (free_of t) s.items q);
+  moved = ap (holding t) (ap (λ l. t.items ++ take (free_of t) l) (none_kept p s.items q)
+      ∙ ap (λ l. t.items ++ l) (take_all (free_of t) [] (omega arith)) ∙ append-nil t.items);
+}
 
--- one is moved
+-- where nothing is free, none is left out and none is moved
+pub no_room_left : {X : Type 0} (p : X → Bool) (s t : Waiting X) → free_of t ≡ 0 → left_behind p s t ≡ s
+no_room_left p s t z = ap (λ n. holding s (without_first p n s.items)) z
+
+pub no_room_moved : {X : Type 0} (p : X → Bool) (s t : Waiting X) → free_of t ≡ 0 → moved_onto p s t ≡ t
+no_room_moved p s t z = ap (λ n. holding t (with_first p n s.items t.items)) z ∙ ap (holding t) (append-nil t.items)
+
+-- one is moved where there is room: what is left and moved from there is what it was
+pub record OneMoved {X : Type 0} (p : X → Bool) (s t u v : Waiting X) : Type 0 where
+  pub left : left_behind p u v ≡ left_behind p s t
+  pub moved : moved_onto p u v ≡ moved_onto p s t
+  pub room : suc (free_of v) ≡ free_of t
+
+-- where something is free, one is added
+added_free : {X : Type 0} (t : Waiting X) (e : X) → 0 < free_of t → added t.places t.items e ≡ t.items ++ (e ∷ [])
+added_free t e h = grind (arith, nat_tests)
+
 pub one_moved :
-    {X : Type 0} (p : X → Bool) (n : ℕ) (xs ys : List X) (e : X) → Some e ≡ earliest p xs →
-    with_first p n (without_earliest p xs) (ys ++ (e ∷ [])) ≡ with_first p (suc n) xs ys
-one_moved p n xs ys e q =
-    append_assoc ys (e ∷ []) (take n (filter p (without_earliest p xs)))
-    ∙ sym (ap (λ l. ys ++ take (suc n) l) (first_kept p xs e q))
-
--- where there is room, an envelope is added
-pub room_full : {X : Type 0} (room n : ℕ) (ys : List X) → 0 < n → n + length ys ≡ room → is_full room ys ≡ false
-room_full room n ys h e = grind (arith, nat_tests)
-
-pub room_added : {X : Type 0} (room n : ℕ) (ys : List X) (y : X) → 0 < n → n + length ys ≡ room → added room ys y ≡ ys ++ (y ∷ [])
-room_added room n ys y h e = ap (λ b. cond b ys (ys ++ (y ∷ []))) (room_full room n ys h e)
+    {X : Type 0} (p : X → Bool) (s t u v : Waiting X) (e : X) → Some e ≡ earliest p s.items → 0 < free_of t →
+    u ≡ holding s (without_earliest p s.items) → v ≡ holding t (added t.places t.items e) → OneMoved p s t u v
+one_moved p s t u v e q h a b =
+    let rest = without_earliest p s.items in
+    let more = t.items ++ (e ∷ []) in
+    let n = free_of (holding t more) in
+    let room : suc n ≡ free_of t = omega (arith, length_push t.items e) in
+    let left : left_behind p (holding s rest) (holding t more) ≡ left_behind p s t =
+    ap (λ k. holding s (without_first p k s.items)) room in
+    let moved : moved_onto p (holding s rest) (holding t more) ≡ moved_onto p s t =
+    ap (holding t) (append_assoc t.items (e ∷ []) (take n (filter p rest))
+    ∙ sym (ap (λ l. t.items ++ take (suc n) l) (first_kept p s.items e q))
+    ∙ ap (λ k. with_first p k s.items t.items) room) in
+    subst (λ x. OneMoved p s t x v) (sym a)
+    (subst (λ y. OneMoved p s t (holding s rest) y) (sym (b ∙ ap (holding t) (added_free t e h)))
+    (record { left = left; moved = moved; room = room }))

@@ -2,8 +2,10 @@
 #![tactic(auto)]
 
 pub mod carrier;
+pub mod list;
 pub mod moving;
 pub mod question;
 pub mod record;
+pub mod slot;
 #[cfg(test)]
 mod tests;

@@ -2,10 +2,10 @@
 ghost use Rattle.std.specs.Prelude.{◌≡◌};
 ghost use Rattle.waiting.specs.Items.{earliest};
 ghost use Rattle.carriage.specs.Carried.{between};
-ghost use Rattle.carriage.specs.Moved.{without_first, with_first, free_of, move_answer};
+ghost use Rattle.carriage.specs.Moved.{left_behind, moved_onto, move_answer};
 
 use super::carrier::Carrier;
-use isup::message::Exchange;
+use super::question::Between;
 use numbers::refusal::Refusal;
 
 // Moves what waits from one exchange to another onto a second carrier, in its order, while that has room.
@@ -13,24 +13,19 @@ use numbers::refusal::Refusal;
 pub fn move_all<S: Carrier, T: Carrier>(
     source: &mut S,
     target: &mut T,
-    from: Exchange,
-    to: Exchange,
+    ends: Between,
 ) -> Result<(), Refusal>
-    ensures answer { result ≡ move_answer (earliest (between from to) (S.Carrier.waiting source.new)) }
-    ensures left { S.Carrier.waiting source.new ≡ without_first (between from to) (free_of (T.Carrier.capacity target.old) (T.Carrier.waiting target.old)) (S.Carrier.waiting source.old) }
-    ensures moved { T.Carrier.waiting target.new ≡ with_first (between from to) (free_of (T.Carrier.capacity target.old) (T.Carrier.waiting target.old)) (S.Carrier.waiting source.old) (T.Carrier.waiting target.old) }
-    ensures source_room { S.Carrier.capacity source.new ≡ S.Carrier.capacity source.old }
-    ensures target_room { T.Carrier.capacity target.new ≡ T.Carrier.capacity target.old }
+    ensures answer { result ≡ move_answer (earliest (between ends) (S.Carrier.waiting source.new).items) }
+    ensures left { S.Carrier.waiting source.new ≡ left_behind (between ends) (S.Carrier.waiting source.old) (T.Carrier.waiting target.old) }
+    ensures moved { T.Carrier.waiting target.new ≡ moved_onto (between ends) (S.Carrier.waiting source.old) (T.Carrier.waiting target.old) }
 {
-    let mut room = target.free();
-    while room > 0 {
-        let Some(e) = source.take(from, to) else {
+    for _moved in 0..target.free() {
+        let Some(e) = source.take(ends) else {
             return Ok(());
         };
         target.put(e)?;
-        room -= 1;
     }
-    match source.look(from, to) {
+    match source.look(ends) {
         Some(_) => Err(Refusal::Full),
         None => Ok(()),
     }

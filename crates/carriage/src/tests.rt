@@ -1,6 +1,7 @@
 // Carriers at their edges.
 use super::carrier::Carrier;
 use super::moving::move_all;
+use super::question::Between;
 use super::record::RecordCarrier;
 use isup::message::{Cause, Circuit, Envelope, Exchange, Message, Way};
 use std::test::Fail;
@@ -17,16 +18,25 @@ fn release_of(from: u8, to: u8, call: u8) -> Option<Envelope> {
 }
 
 fn release(from: u8, to: u8, call: u8) -> Result<Envelope, Fail> {
-    match release_of(from, to, call) {
-        Some(e) => Ok(e),
-        None => Err(Fail::new("out of range")),
-    }
+    Ok(release_of(from, to, call).ok_or("out of range")?)
 }
 
 fn call_of(e: Option<Envelope>) -> Option<u8> {
-    match e {
-        Some(e) => Some(e.circuit.call()),
-        None => None,
+    e.map(|e| e.circuit.call())
+}
+
+// The two ends of an envelope, and the same the other way round.
+fn ends_of(e: Envelope) -> Between {
+    Between {
+        from: e.from,
+        to: e.to,
+    }
+}
+
+fn other_way_of(e: Envelope) -> Between {
+    Between {
+        from: e.to,
+        to: e.from,
     }
 }
 
@@ -47,8 +57,8 @@ fn full_emptied_and_filled_again(rt: HostRuntime) -> Result<(), Fail> {
     let mut carrier = RecordCarrier::new(&mut slots);
     assert!(rt; carrier.put(e).is_ok());
     assert!(rt; carrier.put(e).is_err());
-    assert_eq!(rt; call_of(carrier.take(e.to, e.from)), None);
-    assert_eq!(rt; call_of(carrier.take(e.from, e.to)), Some(3));
+    assert_eq!(rt; call_of(carrier.take(other_way_of(e))), None);
+    assert_eq!(rt; call_of(carrier.take(ends_of(e))), Some(3));
     assert!(rt; carrier.put(e).is_ok());
     Ok(())
 }
@@ -62,7 +72,7 @@ fn taken_from_the_middle(rt: HostRuntime) -> Result<(), Fail> {
     assert!(rt; carrier.put(e).is_ok());
     assert!(rt; carrier.put(same).is_ok());
     assert!(rt; carrier.put(e).is_ok());
-    assert_eq!(rt; call_of(carrier.take(same.from, same.to)), Some(2));
+    assert_eq!(rt; call_of(carrier.take(ends_of(same))), Some(2));
     assert_eq!(rt; carrier.waiting_for(1), 2);
     assert_eq!(rt; carrier.free(), 1);
     Ok(())
@@ -77,7 +87,7 @@ fn moved_while_there_is_room(rt: HostRuntime) -> Result<(), Fail> {
     let mut target = RecordCarrier::new(&mut narrow);
     assert!(rt; source.put(e).is_ok());
     assert!(rt; source.put(e).is_ok());
-    assert!(rt; move_all(&mut source, &mut target, e.from, e.to).is_err());
+    assert!(rt; move_all(&mut source, &mut target, ends_of(e)).is_err());
     assert_eq!(rt; source.waiting_for(5), 1);
     assert_eq!(rt; target.waiting_for(5), 1);
     Ok(())

@@ -1,5 +1,5 @@
 -- What frames hold.
-use Rattle.std.specs.Prelude.{◌≡◌, true, List, map, is_some, Some, None, Option}
+use Rattle.std.specs.Prelude.{◌≡◌, true, is_some, Some, None, Option}
 use Rattle.std.proofs.lemmas.Bool.{false≢true}
 use Rattle.numbers.specs.declared.number.Number.{Number}
 use Rattle.isup.specs.declared.message.Envelope.{Envelope}
@@ -14,7 +14,3 @@ the_some None h = absurd (false≢true h)
 -- the envelope that a frame holds
 unfoldable pub envelope_of : Frame → Envelope Number
 envelope_of f = the_some (envelope_in f.octets) f.coded
-
--- the envelopes that frames hold, in their order
-abbrev pub envelopes_of : List Frame → List (Envelope Number)
-envelopes_of fs = map envelope_of fs

@@ -4,11 +4,10 @@ use Rattle.std.specs.Result.{result_ok}
 use Rattle.numbers.specs.declared.number.Number.{Number}
 use Rattle.isup.specs.declared.message.Circuit.{Circuit}
 use Rattle.isup.specs.declared.message.Envelope.{Envelope}
-use Rattle.isup.specs.declared.message.Exchange.{Exchange}
 use Rattle.isup.specs.declared.message.Message.{Message}
 use Rattle.isup.specs.declared.message.Way.{Way}
 use Rattle.isup.specs.Codes.{way_of}
-use Rattle.isup.specs.Ranges.{exchange_in}
+use Rattle.isup.specs.Ranges.{Exchange, exchange_in}
 use Rattle.decode.specs.Messages.{read_message}
 
 -- where a frame ends: behind the two octets of the length and what follows them

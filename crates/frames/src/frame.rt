@@ -3,6 +3,7 @@ ghost use Rattle.std.specs.Prelude.{◌≡◌, true, length, is_some};
 ghost use Rattle.frames.specs.Framing.{envelope_in};
 
 pub mod framing;
+mod keeping;
 
 // The length of what follows in two octets, the high one first, then from, to, way and the message. What stands behind the
 // message is open.

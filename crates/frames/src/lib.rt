@@ -3,4 +3,3 @@
 
 pub mod carrier;
 pub mod frame;
-pub mod question;

@@ -1,11 +1,15 @@
 -- Records by the numbers that they are asked for with; services and kinds compared.
-use Rattle.std.specs.Prelude.{ℕ, Bool, true, false, cond, Some, None, Option, ◌==◌}
+use Rattle.std.specs.Prelude.{ℕ, Bool, true, false, cond, List, [], ◌∷◌, is_some, Some, None, Option, Result, ◌==◌}
 use Rattle.isup.specs.declared.message.Service.{Service}
-use Rattle.isup.specs.Codes.{service_code}
+use Rattle.isup.specs.declared.message.Service.TheVariants.{Speech, Digital64, Audio}
+use Rattle.isup.specs.declared.codes.UnknownCode.{UnknownCode}
+use Rattle.isup.specs.Codes.{service_code, known}
+use Rattle.numbers.specs.declared.number.Number.{Number}
 use Rattle.options.specs.declared.record.Kind.{Kind}
 use Rattle.options.specs.declared.record.Kind.TheVariants as kind
 use Rattle.options.specs.declared.record.NotificationOption.{NotificationOption}
 use Rattle.options.specs.declared.record.NotificationOption.TheVariants as option
+use Rattle.options.specs.declared.record.RawRecord.{RawRecord}
 use Rattle.options.specs.declared.record.Record.{Record}
 use Rattle.options.specs.declared.record.Services.{Services}
 use Rattle.options.specs.declared.record.Services.TheVariants.{One, All}
@@ -27,6 +31,11 @@ same_service a b = service_code a == service_code b
 abbrev pub serves : Services → Service → Bool
 serves (One t) s = same_service t s
 serves All s = true
+
+-- the services that are meant
+abbrev pub services_in : Services → List Service
+services_in (One t) = t ∷ []
+services_in All = Speech ∷ Digital64 ∷ Audio ∷ []
 
 -- how many services are meant
 abbrev pub service_count : Services → ℕ
@@ -51,3 +60,7 @@ record_with target (Some o) (Some m) = Some (record { target = target; option = 
 -- the record with these numbers; none where one is out of its range
 abbrev pub record_of : {N : Type 0} → N → ℕ → ℕ → Option (Record N)
 record_of target o m = record_with target (option_of o) (release_of m)
+
+-- the record of its raw parts, or the option or else the mark that is out of its range
+abbrev pub record_read : RawRecord → Result (Record Number) UnknownCode
+record_read raw = known (cond (is_some (option_of raw.option)) raw.mark raw.option) (record_of raw.target raw.option raw.mark)

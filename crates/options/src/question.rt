@@ -3,11 +3,10 @@ ghost use Rattle.options.specs.Cells.{is_diversion, is_withheld};
 
 use super::cells::Cell;
 use super::record::{Kind, Services};
-use isup::message::Service;
 use numbers::number::Number;
 use waiting::Question;
 
-// Does it hold a diversion of a number, for one of the services and for the kind?
+// The diversions of a number, for the services and the kind: does a cell hold one of them?
 #[derive(Clone, Copy)]
 pub struct Diversions {
     pub number: Number,
@@ -16,20 +15,16 @@ pub struct Diversions {
 }
 
 impl Question<Cell> for Diversions {
-    ghost fits = { λ q c. is_diversion q.number q.services q.kind c };
+    ghost fits = { is_diversion };
 
-    fn asks(&self, c: Cell) -> bool {
-        match c {
+    fn asks(&self, cell: &Cell) -> bool {
+        match cell {
             Cell::Diversion {
                 number,
                 service,
                 kind,
                 ..
-            } => {
-                self.number == number
-                    && self.services.has(service)
-                    && self.kind.place() == kind.place()
-            }
+            } => self.number == *number && self.services.has(*service) && self.kind == *kind,
             Cell::Withheld { .. } => false,
         }
     }
@@ -42,12 +37,12 @@ pub struct Withholding {
 }
 
 impl Question<Cell> for Withholding {
-    ghost fits = { λ q c. is_withheld q.number c };
+    ghost fits = { λ question cell. is_withheld question.number cell };
 
-    fn asks(&self, c: Cell) -> bool {
-        match c {
+    fn asks(&self, cell: &Cell) -> bool {
+        match cell {
             Cell::Diversion { .. } => false,
-            Cell::Withheld { number } => self.number == number,
+            Cell::Withheld { number } => self.number == *number,
         }
     }
 }

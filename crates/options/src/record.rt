@@ -1,12 +1,15 @@
 // What is held for a number: when calls to it are diverted, where to, and what may be told of it.
 ghost use Rattle.std.specs.Prelude.{◌≡◌};
-ghost use Rattle.options.specs.Records.{kind_place, serves, service_count, option_of, record_of};
+ghost use Rattle.isup.specs.Codes.{known};
+ghost use Rattle.options.specs.Records.{kind_place, serves, service_count, services_in, option_of};
 
+use isup::codes::UnknownCode;
 use isup::message::Service;
 use numbers::number::Number;
+use std::slice;
 
 // When a diversion is made: always, when the line is busy, when nobody answers, or at the called party's own request.
-#[derive(Clone, Copy, PartialEq, Eq)]
+#[derive(Clone, Copy, Debug, PartialEq, Eq)]
 pub enum Kind {
     Unconditional,
     Busy,
@@ -15,7 +18,7 @@ pub enum Kind {
 }
 
 // What a diverting party allows the caller to be told: nothing, the diversion with the new number, or the diversion alone.
-#[derive(Clone, Copy, PartialEq, Eq)]
+#[derive(Clone, Copy, Debug, PartialEq, Eq)]
 pub enum NotificationOption {
     NotAllowed,
     WithNumber,
@@ -30,34 +33,49 @@ pub struct Record<N = Number> {
     pub may_release: bool,
 }
 
-// One service, or all three of them.
+// The parts that a record is asked for with: an option from 1 to 3 and a release mark 0 or 1 are those of a record.
 #[derive(Clone, Copy)]
+pub struct RawRecord {
+    pub target: Number,
+    pub option: u8,
+    pub mark: u8,
+}
+
+// One service, or all three of them.
+#[derive(Clone, Copy, Debug, PartialEq, Eq)]
 pub enum Services {
     One(Service),
     All,
 }
+
+static ALL: [Service; 3] = [Service::Speech, Service::Digital64, Service::Audio];
 
 impl Kind {
     // The kind's place among the four.
     pub fn place(self) -> u8
         ensures { result ≡ kind_place self }
     {
-        match self {
-            Kind::Unconditional => 0,
-            Kind::Busy => 1,
-            Kind::NoReply => 2,
-            Kind::Deflection => 3,
-        }
+        self as u8
     }
 }
 
 impl Services {
+    // The services meant.
+    pub fn each(&self) -> &[Service]
+        ensures { result.now ≡ services_in self.now }
+    {
+        match self {
+            Services::One(only) => slice::from_ref(only),
+            Services::All => &ALL,
+        }
+    }
+
     // Is a service among those meant?
     pub fn has(self, service: Service) -> bool
         ensures { result ≡ serves self service }
     {
         match self {
-            Services::One(only) => only.code() == service.code(),
+            Services::One(only) => only == service,
             Services::All => true,
         }
     }
@@ -66,45 +84,45 @@ impl Services {
     pub fn count(self) -> usize
         ensures { result ≡ service_count self }
     {
-        match self {
-            Services::One(_) => 1,
-            Services::All => 3,
-        }
+        self.each().len()
     }
 }
 
-impl NotificationOption {
-    // The option with a number from 1 to 3.
-    pub fn from_number(number: u8) -> Option<NotificationOption>
-        ensures { result ≡ option_of number }
-    {
+// The option with a number from 1 to 3.
+impl TryFrom<u8> for NotificationOption {
+    type Error = UnknownCode;
+
+    ghost try_from_gives = { λ number r. r ≡ known number (option_of number) };
+
+    fn try_from(number: u8) -> Result<NotificationOption, UnknownCode> {
         match number {
-            1 => Some(NotificationOption::NotAllowed),
-            2 => Some(NotificationOption::WithNumber),
-            3 => Some(NotificationOption::WithoutNumber),
-            _ => None,
+            1 => Ok(NotificationOption::NotAllowed),
+            2 => Ok(NotificationOption::WithNumber),
+            3 => Ok(NotificationOption::WithoutNumber),
+            _ => Err(UnknownCode(number)),
         }
     }
 }
 
-impl Record {
-    // The record with an option from 1 to 3 and a release mark 0 or 1; none where either is out of its range.
-    pub fn from_numbers(target: Number, option: u8, mark: u8) -> Option<Record>
-        ensures { result ≡ record_of target option mark }
-    {
-        let option = NotificationOption::from_number(option)?;
-        match mark {
-            0 => Some(Record {
-                target,
-                option,
-                may_release: false,
-            }),
-            1 => Some(Record {
-                target,
-                option,
-                may_release: true,
-            }),
-            _ => None,
-        }
+// The record of its raw parts; the option is judged first.
+impl TryFrom<RawRecord> for Record {
+    ghost use Rattle.options.specs.Records.{record_read};
+
+    type Error = UnknownCode;
+
+    ghost try_from_gives = { λ raw r. r ≡ record_read raw };
+
+    fn try_from(raw: RawRecord) -> Result<Record, UnknownCode> {
+        let option = NotificationOption::try_from(raw.option)?;
+        let may_release = match raw.mark {
+            0 => false,
+            1 => true,
+            _ => return Err(UnknownCode(raw.mark)),
+        };
+        Ok(Record {
+            target: raw.target,
+            option,
+            may_release,
+        })
     }
 }

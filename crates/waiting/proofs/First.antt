@@ -1,75 +1,48 @@
--- The first that fits: found step by step, and what its place tells.
-use Rattle.std.proofs.Common.{◌≡◌, ℕ, suc, ◌+◌, ◌<◌, ◌≤◌, Bool, true, false, cond, List, [], ◌∷◌, length, get_or, drop, Some, None, sym, refl, ap, ◌∙◌, arith}
-use Rattle.std.specs.List.{slice_get as nth, remove as removed}
-use Rattle.std.proofs.lemmas.List.{at_drop_more, at_drop_all}
-use Rattle.waiting.specs.Items.{first_from, first_fit, earliest, without_earliest}
+-- The first that fits: its element is the earliest, and without it the list is without the earliest.
+use Rattle.std.proofs.Common.{◌≡◌, ℕ, suc, ◌+◌, ◌≤◌, Bool, true, false, not, cond, List, [], ◌∷◌, length, Some, None, sym, refl, ap, ◌∙◌, arith}
+use Rattle.std.specs.List.{slice_get, remove, position_or_len}
+use Rattle.std.proofs.lemmas.Bool.Decides.{nat_tests}
+use Rattle.std.proofs.lemmas.Iterator.Adapters.{position_from-zero}
+use Rattle.std.proofs.lemmas.Option.{slice_get_past}
+use Rattle.waiting.specs.Items.{first_fit, earliest, without_earliest}
+use Rattle.waiting.proofs.Cut.{removed_none}
 
-pub first_more :
-    {X : Type 0} (p : X → Bool) (xs : List X) (i : ℕ) (x : X) (b : Bool) → i < length xs → x ≡ get_or xs i x → p x ≡ b →
-    first_from p i (drop i xs) ≡ cond b (Some i) (first_from p (i + 1) (drop (i + 1) xs))
-first_more p xs i x b h e t =
-    at_drop_more (λ l. first_from p i l) xs i x h
-    ∙ ap (λ v. first_from p i (v ∷ drop (i + 1) xs)) (sym e)
-    ∙ ap (λ v. cond v (Some i) (first_from p (i + 1) (drop (i + 1) xs))) t
+at_first : {X : Type 0} (p : X → Bool) (xs : List X) → slice_get xs (position_or_len p xs) ≡ earliest p xs
+at_first p [] = refl
+at_first p (x ∷ xs) = grind (arith, at_first p xs)
 
-pub first_none : {X : Type 0} (p : X → Bool) (xs : List X) (i : ℕ) → length xs ≤ i → first_from p i (drop i xs) ≡ None
-first_none p xs i h = at_drop_all (λ l. first_from p i l) xs i h
+without_by :
+    {X : Type 0} (b : Bool) (x : X) (xs w : List X) (k : ℕ) → remove xs k ≡ w → remove (x ∷ xs) (cond (not b) (1 + k) 0) ≡ cond b xs (x ∷ w)
+without_by true x xs w k e = refl
+without_by false x xs w k e =
+    let next : 1 + k ≡ suc k = omega arith in
+    ap (remove (x ∷ xs)) next ∙ ap (λ l. x ∷ l) e
 
--- what a place that was found tells: its element is the earliest, and the rest is the list without that
-pub record Found {X : Type 0} (p : X → Bool) (xs : List X) (n i : ℕ) : Type 0 where
-  pub at : ℕ
-  pub is : i ≡ n + at
-  pub answers : nth xs at ≡ earliest p xs
-  pub leaves : removed xs at ≡ without_earliest p xs
+without_first : {X : Type 0} (p : X → Bool) (xs : List X) → remove xs (position_or_len p xs) ≡ without_earliest p xs
+without_first p [] = refl
+without_first p (x ∷ xs) = without_by (p x) x xs (without_earliest p xs) (position_or_len p xs) (without_first p xs)
 
-found_by :
-    {X : Type 0} (p : X → Bool) (y : X) (ys : List X) (n i : ℕ) (b : Bool) → p y ≡ b →
-    Some i ≡ cond b (Some n) (first_from p (n + 1) ys) →
-    (Some i ≡ first_from p (n + 1) ys → Found p ys (n + 1) i) → Found p (y ∷ ys) n i
-found_by p y ys n i true t e ih = record {
-  at = 0;
-  is = (let q : n ≡ i = cc in omega arith);
-  answers = sym (ap (λ b. cond b (Some y) (earliest p ys)) t);
-  leaves = sym (ap (λ b. cond b ys (y ∷ without_earliest p ys)) t);
-}
-found_by p y ys n i false t e ih =
-    let r = ih e in
-    record {
-      at = suc r.at;
-      is = (let q = r.is in omega arith);
-      answers = r.answers ∙ sym (ap (λ b. cond b (Some y) (earliest p ys)) t);
-      leaves = ap (λ l. y ∷ l) r.leaves ∙ sym (ap (λ b. cond b ys (y ∷ without_earliest p ys)) t);
-    }
+-- a place that was found is the first place
+place : {X : Type 0} (p : X → Bool) (xs : List X) (i : ℕ) → Some i ≡ first_fit p xs → position_or_len p xs ≡ i
+place p xs i e =
+    let z = position_from-zero p xs in
+    grind (arith, nat_tests)
 
-found : {X : Type 0} (p : X → Bool) (xs : List X) (n i : ℕ) → Some i ≡ first_from p n xs → Found p xs n i
-found p [] n i e = absurd (let z : ◌≡◌ {A = ℕ} 0 1 = cc in omega arith)
-found p (y ∷ ys) n i e = found_by p y ys n i (p y) refl e (λ q. found p ys (n + 1) i q)
+pub found_answers : {X : Type 0} (p : X → Bool) (xs : List X) (i : ℕ) → Some i ≡ first_fit p xs → slice_get xs i ≡ earliest p xs
+found_answers p xs i e = sym (ap (slice_get xs) (place p xs i e)) ∙ at_first p xs
 
-pub found_answers : {X : Type 0} (p : X → Bool) (xs : List X) (i : ℕ) → Some i ≡ first_fit p xs → nth xs i ≡ earliest p xs
-found_answers p xs i e =
-    let r = found p xs 0 i e in
-    ap (nth xs) (let q = r.is in omega arith) ∙ r.answers
+pub found_leaves : {X : Type 0} (p : X → Bool) (xs : List X) (i : ℕ) → Some i ≡ first_fit p xs → remove xs i ≡ without_earliest p xs
+found_leaves p xs i e = sym (ap (remove xs) (place p xs i e)) ∙ without_first p xs
 
-pub found_leaves : {X : Type 0} (p : X → Bool) (xs : List X) (i : ℕ) → Some i ≡ first_fit p xs → removed xs i ≡ without_earliest p xs
-found_leaves p xs i e =
-    let r = found p xs 0 i e in
-    ap (removed xs) (let q = r.is in omega arith) ∙ r.leaves
+-- where none fits, the first place is past the end
+none_place : {X : Type 0} (p : X → Bool) (xs : List X) → None ≡ first_fit p xs → None ≡ slice_get xs (position_or_len p xs)
+none_place p xs e =
+    let z = position_from-zero p xs in
+    let past : length xs ≤ position_or_len p xs = grind (arith, nat_tests) in
+    sym (slice_get_past xs (position_or_len p xs) past)
 
--- where none fits, there is no earliest, and the list without it is the whole list
-pub record Missing {X : Type 0} (p : X → Bool) (xs : List X) : Type 0 where
-  pub answers : None ≡ earliest p xs
-  pub leaves : xs ≡ without_earliest p xs
+pub missing_answers : {X : Type 0} (p : X → Bool) (xs : List X) → None ≡ first_fit p xs → None ≡ earliest p xs
+missing_answers p xs e = none_place p xs e ∙ at_first p xs
 
-missing_by :
-    {X : Type 0} (p : X → Bool) (y : X) (ys : List X) (n : ℕ) (b : Bool) → p y ≡ b →
-    None ≡ cond b (Some n) (first_from p (n + 1) ys) →
-    (None ≡ first_from p (n + 1) ys → Missing p ys) → Missing p (y ∷ ys)
-missing_by p y ys n true t e ih = absurd (let z : ◌≡◌ {A = ℕ} 0 1 = cc in omega arith)
-missing_by p y ys n false t e ih = record {
-  answers = (ih e).answers ∙ sym (ap (λ b. cond b (Some y) (earliest p ys)) t);
-  leaves = ap (λ l. y ∷ l) (ih e).leaves ∙ sym (ap (λ b. cond b ys (y ∷ without_earliest p ys)) t);
-}
-
-pub missing : {X : Type 0} (p : X → Bool) (xs : List X) (n : ℕ) → None ≡ first_from p n xs → Missing p xs
-missing p [] n e = record { answers = refl; leaves = refl }
-missing p (y ∷ ys) n e = missing_by p y ys n (p y) refl e (λ q. missing p ys (n + 1) q)
+pub missing_leaves : {X : Type 0} (p : X → Bool) (xs : List X) → None ≡ first_fit p xs → xs ≡ without_earliest p xs
+missing_leaves p xs e = sym (removed_none xs (position_or_len p xs) (none_place p xs e)) ∙ without_first p xs

@@ -1,14 +1,15 @@
 -- What a waiting list means, and what is found in a list.
-use Rattle.std.specs.Prelude.{ℕ, ◌+◌, Bool, cond, not, List, [], ◌∷◌, ◌++◌, length, take, Some, None, filter, Option, ◌==◌}
-use Rattle.waiting.specs.declared.WaitingList.{WaitingList}
+use Rattle.std.specs.Prelude.{ℕ, Bool, cond, not, List, [], ◌∷◌, ◌++◌, length, filter, Option, ◌==◌}
+use Rattle.std.specs.List.{find, position_from}
 
--- the elements that wait, the earliest first
-abbrev pub items : {T : Type 0} → WaitingList T → List T
-items w = take w.held w.slots.now
+-- how many elements there is room for in all, and the elements that wait, the earliest first
+pub record Waiting (T : Type 0) : Type 0 where
+  pub places : ℕ
+  pub items : List T
 
--- how many elements there is room for in all
-abbrev pub places : {T : Type 0} → WaitingList T → ℕ
-places w = length w.slots.now
+-- the same room with other elements in it
+abbrev pub holding : {T : Type 0} → Waiting T → List T → Waiting T
+holding w xs = record { places = w.places; items = xs }
 
 -- whether as many are held as there is room for
 abbrev pub is_full : {X : Type 0} → ℕ → List X → Bool
@@ -18,19 +19,13 @@ is_full room xs = length xs == room
 abbrev pub added : {X : Type 0} → ℕ → List X → X → List X
 added room xs x = cond (is_full room xs) xs (xs ++ (x ∷ []))
 
--- the place of the first that fits, where the list's own places count from n
-abbrev pub first_from : {X : Type 0} → (X → Bool) → ℕ → List X → Option ℕ
-first_from p n [] = None
-first_from p n (x ∷ xs) = cond (p x) (Some n) (first_from p (n + 1) xs)
-
 -- the place of the first that fits, from 0
 abbrev pub first_fit : {X : Type 0} → (X → Bool) → List X → Option ℕ
-first_fit p xs = first_from p 0 xs
+first_fit p xs = position_from p 0 xs
 
 -- the first that fits
 abbrev pub earliest : {X : Type 0} → (X → Bool) → List X → Option X
-earliest p [] = None
-earliest p (x ∷ xs) = cond (p x) (Some x) (earliest p xs)
+earliest p xs = find p xs
 
 -- the list without the first that fits
 abbrev pub without_earliest : {X : Type 0} → (X → Bool) → List X → List X

@@ -3,7 +3,9 @@
 
 ghost use Rattle.std.specs.Prelude.{◌≡◌, ◌+◌, min, Bool, [], length, is_err, count_by};
 ghost use Rattle.std.specs.List.{slice_get, remove};
-ghost use Rattle.waiting.specs.Items.{items, places, is_full, added, first_fit, earliest, without_earliest, others};
+ghost use Rattle.waiting.specs.Items.{holding, is_full, added, first_fit, earliest, without_earliest, others};
+
+use std::marker::Model;
 
 // The list is the front of the memory. What stands in the places behind it is open.
 #[derive(Drop)]
@@ -12,23 +14,35 @@ pub struct WaitingList<'a, T: Copy> {
     held: usize,
 }
 
+impl<'a, T: Copy> Model for WaitingList<'a, T> {
+    ghost use Rattle.std.specs.Prelude.{◌≤◌, length, take};
+    ghost use Rattle.waiting.specs.Items.{Waiting};
+
+    ghost Value = { Waiting T };
+
+    ghost view = { λ w. record { places = length w.slots.now; items = take w.held w.slots.now } };
+
+    ghost invariant = { λ w. w.held ≤ length w.slots.now };
+}
+
 // As many elements are held as there are places.
-#[derive(Clone, Copy, Debug)]
+#[derive(Clone, Copy, Debug, PartialEq, Eq)]
 pub struct Full;
 
 // A question that each element fits or does not fit.
+// No closure stands for it: a call of one asks a `requires` of the caller, and names no function by which it answers.
 pub trait Question<T> {
     ghost fits: { Self → T → Bool };
 
-    fn asks(&self, x: T) -> bool
-        ensures { result ≡ fits self.now x };
+    fn asks(&self, x: &T) -> bool
+        ensures { result ≡ fits self.now x.now };
 }
 
 impl<'a, T: Copy> WaitingList<'a, T> {
     // An empty list in the first places of the memory, at most as many as the limit.
     pub fn new(slots: &'a mut [T], limit: usize) -> WaitingList<'a, T>
-        ensures empty { items result ≡ [] }
-        ensures room { places result ≡ min limit (length slots.old) }
+        ensures empty { result.items ≡ [] }
+        ensures room { result.places ≡ min limit (length slots.old) }
     {
         let count = limit.min(slots.len());
         let (front, _) = slots.split_at_mut(count);
@@ -40,37 +54,35 @@ impl<'a, T: Copy> WaitingList<'a, T> {
 
     // The elements, in their order.
     pub fn elements(&self) -> &[T]
-        ensures { result.now ≡ items self.now }
+        ensures { result.now ≡ self.now.items }
     {
-        let slots: &[T] = self.slots;
-        &slots[0..self.held.min(slots.len())]
+        &self.slots[..self.held]
     }
 
     pub fn len(&self) -> usize
-        ensures { result ≡ length (items self.now) }
+        ensures { result ≡ length self.now.items }
     {
-        self.elements().len()
+        self.held
     }
 
     // How many elements there is room for in all.
     pub fn capacity(&self) -> usize
-        ensures { result ≡ places self.now }
+        ensures { result ≡ self.now.places }
     {
         self.slots.len()
     }
 
     // The free places: with the elements held they make up the capacity.
     pub fn free(&self) -> usize
-        ensures { result + length (items self.now) ≡ places self.now }
+        ensures { result + length self.now.items ≡ self.now.places }
     {
-        self.capacity() - self.len()
+        self.slots.len() - self.held
     }
 
     // Adds an element at the end; refused exactly when the list is full.
     pub fn put(&mut self, x: T) -> Result<(), Full>
-        ensures answer { is_err result ≡ is_full (places self.old) (items self.old) }
-        ensures after { items self.new ≡ added (places self.old) (items self.old) x }
-        ensures room { places self.new ≡ places self.old }
+        ensures answer { is_err result ≡ is_full self.old.places self.old.items }
+        ensures after { self.new ≡ holding self.old (added self.old.places self.old.items x) }
     {
         if self.held >= self.slots.len() {
             return Err(Full);
@@ -82,67 +94,47 @@ impl<'a, T: Copy> WaitingList<'a, T> {
 
     // The element at a place, counted from 0.
     pub fn get(&self, i: usize) -> Option<T>
-        ensures { result ≡ slice_get (items self.now) i }
+        ensures { result ≡ slice_get self.now.items i }
     {
         self.elements().get(i).copied()
     }
 
     // The place of the first element that fits a question.
     pub fn find<Q: Question<T>>(&self, question: &Q) -> Option<usize>
-        ensures { result ≡ first_fit (Q.Question.fits question.now) (items self.now) }
+        ensures { result ≡ first_fit (Q.Question.fits question.now) self.now.items }
     {
-        let elements = self.elements();
-        for i in 0..elements.len() {
-            if question.asks(elements[i]) {
-                return Some(i);
-            }
-        }
-        None
+        self.elements().iter().position(|x| question.asks(x))
     }
 
     // How many elements fit a question.
     pub fn count<Q: Question<T>>(&self, question: &Q) -> usize
-        ensures { result ≡ count_by (Q.Question.fits question.now) (items self.now) }
+        ensures { result ≡ count_by (Q.Question.fits question.now) self.now.items }
     {
-        let elements = self.elements();
-        let mut n = 0;
-        for x in elements {
-            if question.asks(*x) {
-                n += 1;
-            }
-        }
-        n
+        self.elements().iter().filter(|x| question.asks(x)).count()
     }
 
     // Takes the element at a place out; the others keep their order.
     pub fn take(&mut self, i: usize) -> Option<T>
-        ensures answer { result ≡ slice_get (items self.old) i }
-        ensures after { items self.new ≡ remove (items self.old) i }
-        ensures room { places self.new ≡ places self.old }
+        ensures answer { result ≡ slice_get self.old.items i }
+        ensures after { self.new ≡ holding self.old (remove self.old.items i) }
     {
-        let held = self.len();
-        if i >= held {
-            return None;
-        }
-        let taken = self.get(i);
-        self.slots.copy_within(i + 1..held, i);
-        self.held = held - 1;
-        taken
+        let taken = self.get(i)?;
+        self.slots.copy_within(i + 1..self.held, i);
+        self.held -= 1;
+        Some(taken)
     }
 
     // The first element that fits a question.
     pub fn first<Q: Question<T>>(&self, question: &Q) -> Option<T>
-        ensures { result ≡ earliest (Q.Question.fits question.now) (items self.now) }
+        ensures { result ≡ earliest (Q.Question.fits question.now) self.now.items }
     {
-        let i = self.find(question)?;
-        self.get(i)
+        self.elements().iter().copied().find(|x| question.asks(x))
     }
 
     // Takes the first element that fits a question out; the others keep their order.
     pub fn take_first<Q: Question<T>>(&mut self, question: &Q) -> Option<T>
-        ensures answer { result ≡ earliest (Q.Question.fits question.now) (items self.old) }
-        ensures after { items self.new ≡ without_earliest (Q.Question.fits question.now) (items self.old) }
-        ensures room { places self.new ≡ places self.old }
+        ensures answer { result ≡ earliest (Q.Question.fits question.now) self.old.items }
+        ensures after { self.new ≡ holding self.old (without_earliest (Q.Question.fits question.now) self.old.items) }
     {
         let i = self.find(question)?;
         self.take(i)
@@ -150,10 +142,18 @@ impl<'a, T: Copy> WaitingList<'a, T> {
 
     // Takes every element that fits a question out; the others keep their order.
     pub fn take_all<Q: Question<T>>(&mut self, question: &Q)
-        ensures after { items self.new ≡ others (Q.Question.fits question.now) (items self.old) }
-        ensures room { places self.new ≡ places self.old }
+        ensures after { self.new ≡ holding self.old (others (Q.Question.fits question.now) self.old.items) }
     {
-        while self.take_first(question).is_some() {}
+        let held = self.held;
+        self.held = 0;
+        // Elements are read and written in the same memory, so no iterator can lend them here.
+        for i in 0..held {
+            let element = self.slots[i];
+            if !question.asks(&element) {
+                self.slots[self.held] = element;
+                self.held += 1;
+            }
+        }
     }
 }
 

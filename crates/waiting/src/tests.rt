@@ -1,7 +1,7 @@
 // The list at its edges.
 ghost use Rattle.std.specs.Prelude.{nat_lt};
 
-use super::{Question, WaitingList};
+use super::{Full, Question, WaitingList};
 use std::test::Fail;
 
 struct Above(u8);
@@ -9,8 +9,8 @@ struct Above(u8);
 impl Question<u8> for Above {
     ghost fits = { λ q x. nat_lt q.0 x };
 
-    fn asks(&self, x: u8) -> bool {
-        self.0 < x
+    fn asks(&self, x: &u8) -> bool {
+        self.0 < *x
     }
 }
 
@@ -18,7 +18,7 @@ impl Question<u8> for Above {
 fn without_places(rt: HostRuntime) {
     let mut slots = [0u8; 0];
     let mut list = WaitingList::new(&mut slots, 4);
-    assert!(rt; list.put(7).is_err());
+    assert_eq!(rt; list.put(7), Err(Full));
     assert_eq!(rt; list.take(0), None);
     assert_eq!(rt; list.len(), 0);
 }
@@ -28,7 +28,7 @@ fn one_place_filled_again(rt: HostRuntime) -> Result<(), Fail> {
     let mut slots = [0u8; 1];
     let mut list = WaitingList::new(&mut slots, 4);
     list.put(7)?;
-    assert!(rt; list.put(8).is_err());
+    assert_eq!(rt; list.put(8), Err(Full));
     assert_eq!(rt; list.take(0), Some(7));
     assert_eq!(rt; list.get(0), None);
     list.put(9)?;
@@ -43,7 +43,7 @@ fn taken_from_the_middle(rt: HostRuntime) -> Result<(), Fail> {
     list.put(1)?;
     list.put(5)?;
     list.put(6)?;
-    assert!(rt; list.put(7).is_err(), "the limit is below the memory");
+    assert_eq!(rt; list.put(7), Err(Full), "the limit is below the memory");
     assert_eq!(rt; list.find(&Above(1)), Some(1));
     assert_eq!(rt; list.count(&Above(1)), 2);
     assert_eq!(rt; list.take_first(&Above(1)), Some(5));

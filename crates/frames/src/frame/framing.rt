@@ -12,17 +12,15 @@ use isup::message::{Envelope, Exchange, Way};
 fn envelope_in(octets: &[u8]) -> Option<Envelope>
     ensures { result ≡ envelope_in octets.now }
 {
-    if octets.len() < 5 {
+    let [high, low, from, to, way, rest @ ..] = octets else {
         return None;
-    }
-    let end = 2 + octets[0] as usize * 256 + octets[1] as usize;
-    if end < 5 || end > octets.len() {
-        return None;
-    }
-    let from = Exchange::new(octets[2])?;
-    let to = Exchange::new(octets[3])?;
-    let way = Way::from_code(octets[4])?;
-    let (circuit, message) = read(&octets[5..end]).ok()?;
+    };
+    let from = Exchange::new(*from)?;
+    let to = Exchange::new(*to)?;
+    let way = Way::try_from(*way).ok()?;
+    // From, to and way are three of the octets that follow the length.
+    let size = (u16::from_be_bytes([*high, *low]) as usize).checked_sub(3)?;
+    let (circuit, message) = read(rest.get(..size)?).ok()?;
     Some(Envelope {
         from,
         to,
@@ -37,13 +35,9 @@ fn octets_of(e: &Envelope) -> [u8; 64]
     ensures { envelope_in result ≡ Some e.now }
 {
     let mut octets = [0; 64];
-    let len = write(e.circuit, &e.message, &mut octets[5..64]).unwrap();
-    let follows = 3 + len;
-    octets[0] = (follows / 256) as u8;
-    octets[1] = (follows % 256) as u8;
-    octets[2] = e.from.value();
-    octets[3] = e.to.value();
-    octets[4] = e.way.code();
+    let size = write(e.circuit, &e.message, &mut octets[5..]).unwrap();
+    let [high, low] = (3 + size as u16).to_be_bytes();
+    octets[..5].copy_from_slice(&[high, low, e.from.value(), e.to.value(), u8::from(e.way)]);
     octets
 }
 

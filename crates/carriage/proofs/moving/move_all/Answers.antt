@@ -1,45 +1,33 @@
-use Rattle.std.proofs.Common.{◌≡◌, suc, ◌+◌, ◌-◌, [], ◌∷◌, ◌++◌, length, sym, ap, ◌∙◌, arith}
-use Rattle.std.proofs.lemmas.List.{length_push}
+use Rattle.std.proofs.Common.{◌<◌, sym, ap, ◌∙◌, arith}
 use Rattle.numbers.specs.declared.number.Number.{Number}
 use Rattle.waiting.specs.Items.{earliest}
 use Rattle.carriage.specs.Carried.{between}
-use Rattle.carriage.specs.Moved.{without_first, with_first, move_answer}
-use Rattle.carriage.proofs.Moves.{none_left, none_taken, none_moved, one_moved, room_added}
+use Rattle.carriage.specs.Moved.{free_of, move_answer}
+use Rattle.carriage.proofs.Moves.{all_moved, one_moved}
 use Rattle.carriage.proofs.moving.move_all.Goals as goal
 
 pub returns-in_default : goal.returns-in_default
 returns-in_default g c =
-    let p = between {N = Number} c.args.from c.args.to in
-    let s = g.S.Carrier.waiting c.loop-room.source in
-    let t = g.T.Carrier.waiting c.loop-room.target in
+    let p = between {N = Number} c.args.ends in
+    let s = g.S.Carrier.waiting c.loop-moved.source in
     let none = c.in_default.ensures.answer in
-    let same = c.take.ensures.after ∙ none_taken p s none in
+    let all = all_moved p s (g.T.Carrier.waiting c.loop-moved.target) none in
+    let same = c.take.ensures.after ∙ all.whole in
     record {
-      answer = ap move_answer (none ∙ sym (ap (earliest p) same));
-      left = same ∙ sym (none_left p c.loop-room.room s none) ∙ c.loop-room.invariant.0;
-      moved = sym (none_moved p c.loop-room.room s t none) ∙ c.loop-room.invariant.1;
-      source_room = c.take.ensures.room ∙ c.loop-room.invariant.3;
-      target_room = c.loop-room.invariant.4;
+      answer = ap move_answer (none ∙ sym (ap (λ w. earliest p w.items) same));
+      left = same ∙ sym all.left ∙ c.loop-moved.invariant.left;
+      moved = sym all.moved ∙ c.loop-moved.invariant.moved;
     }
 
-pub loop-room-preserved : goal.loop-room-preserved
-loop-room-preserved g c =
-    let p = between {N = Number} c.args.from c.args.to in
-    let s = g.S.Carrier.waiting c.loop-room.source in
-    let t = g.T.Carrier.waiting c.loop-room.target in
-    let e = c.in-Some.e in
-    let n = c.loop-room.room - 1 in
-    let less : suc n ≡ c.loop-room.room = omega arith in
-    let put : g.T.Carrier.waiting c.put.new.self ≡ t ++ (e ∷ []) =
-    c.put.ensures.after
-    ∙ room_added (g.T.Carrier.capacity c.loop-room.target) c.loop-room.room t e (omega arith) c.loop-room.invariant.2 in (
-      ap (without_first p n) c.take.ensures.after ∙ ap (λ k. without_first p k s) less ∙ c.loop-room.invariant.0,
-      ap (λ l. with_first p n l (g.T.Carrier.waiting c.put.new.self)) c.take.ensures.after
-          ∙ ap (with_first p n _) put
-          ∙ one_moved p n s t e c.in-Some.ensures.answer
-          ∙ ap (λ k. with_first p k s t) less
-          ∙ c.loop-room.invariant.1,
-      ap (λ l. n + length l) put ∙ (let more = length_push t e in omega (arith, c.loop-room.invariant.2)) ∙ sym c.put.ensures.room,
-      c.take.ensures.room ∙ c.loop-room.invariant.3,
-      c.put.ensures.room ∙ c.loop-room.invariant.4,
-    )
+pub loop-moved-preserved : goal.loop-moved-preserved
+loop-moved-preserved g c =
+    let t = g.T.Carrier.waiting c.loop-moved.target in
+    let free : 0 < free_of t = omega (arith, c.loop-moved.invariant.room) in
+    let one =
+    one_moved (between {N = Number} c.args.ends) (g.S.Carrier.waiting c.loop-moved.source) t _ _ c.in-Some.e c.in-Some.ensures.answer free
+    c.take.ensures.after c.put.ensures.after in
+    record {
+      left = one.left ∙ c.loop-moved.invariant.left;
+      moved = one.moved ∙ c.loop-moved.invariant.moved;
+      room = (let r = one.room in omega (arith, c.loop-moved.invariant.room));
+    }

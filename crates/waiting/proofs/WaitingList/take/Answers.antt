@@ -1,27 +1,29 @@
-use Rattle.std.proofs.Common.{◌-◌, ◌≤◌, length, take, sym, refl, ap, ◌∙◌, arith}
-use Rattle.std.proofs.lemmas.List.{length-take}
-use Rattle.std.proofs.lemmas.Option.{slice_get_past}
-use Rattle.waiting.specs.Items.{items}
-use Rattle.waiting.proofs.Cut.{removed_past, closed_up}
+use Rattle.std.proofs.Common.{sym, ap, arith}
+use Rattle.waiting.specs.Items.{holding}
+use Rattle.waiting.proofs.Cut.{removed_none, within, taken_out}
 use Rattle.waiting.proofs.WaitingList.take.Goals as goal
 
-pub returns-then-i-held : goal.returns-then-i-held
-returns-then-i-held g c =
-    let xs = items c.args.self.now in
-    let past : length xs ≤ c.args.i = omega arith in
-    record { answer = sym (slice_get_past xs c.args.i past); after = sym (removed_past xs c.args.i past); room = refl }
+pub returns-in_err-taken-clause-after : goal.returns-in_err-taken-clause-after
+returns-in_err-taken-clause-after g c =
+    ap (holding c.args.self.now) (sym (removed_none c.args.self.now.items c.args.i c.in_err-taken.ensures))
 
-pub copy_within-requires : goal.copy_within-requires
-copy_within-requires g c =
-    let n = length-take c.args.self.now.held c.args.self.now.slots.now in
-    record { start_le_end = omega arith; in_bounds = omega arith; dest_in_bounds = omega arith; not_exhausted = tt }
+pub overflow_add-i : goal.overflow_add-i
+overflow_add-i g c =
+    let h = within c.self.inside.slots.now c.self.inside.held c.args.i c.in_ok-taken.taken c.args.self.now c.self.view_is c.in_ok-taken.ensures in
+    omega arith
 
-pub returns : goal.returns
-returns g c =
-    let n = c.len-held.result in
-    record {
-      answer = c.get-taken.ensures;
-      after = ap (take (n - 1)) c.copy_within.ensures.after
-          ∙ closed_up c.args.self.now.slots.now c.args.i n c.args.self.now.held c.len-held.ensures (omega arith);
-      room = c.copy_within.ensures.len;
-    }
+pub copy_within-requires-clause-start_le_end : goal.copy_within-requires-clause-start_le_end
+copy_within-requires-clause-start_le_end g c =
+    let h = within c.self.inside.slots.now c.self.inside.held c.args.i c.in_ok-taken.taken c.args.self.now c.self.view_is c.in_ok-taken.ensures in
+    omega arith
+
+pub copy_within-requires-clause-dest_in_bounds : goal.copy_within-requires-clause-dest_in_bounds
+copy_within-requires-clause-dest_in_bounds g c =
+    let h = within c.self.inside.slots.now c.self.inside.held c.args.i c.in_ok-taken.taken c.args.self.now c.self.view_is c.in_ok-taken.ensures in
+    omega (arith, c.self.invariant)
+
+pub returns-clause-after : goal.returns-clause-after
+returns-clause-after g c =
+    let h = within c.self.inside.slots.now c.self.inside.held c.args.i c.in_ok-taken.taken c.args.self.now c.self.view_is c.in_ok-taken.ensures in
+    taken_out c.self.inside.slots.now _ c.args.i c.self.inside.held c.args.self.now c.self.view_is c.self.invariant h
+    c.copy_within.ensures.len c.copy_within.ensures.after

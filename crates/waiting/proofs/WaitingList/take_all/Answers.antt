@@ -1,32 +1,14 @@
-use Rattle.std.proofs.Common.{length, is_some, sym, refl, ap, ◌∙◌, arith}
-use Rattle.waiting.specs.Items.{items, others}
-use Rattle.waiting.proofs.Others.{others_less, others_all, whole, fewer}
+use Rattle.std.proofs.Common.{arith, not}
+use Rattle.std.proofs.lemmas.Grind.{common_steps}
+use Rattle.std.proofs.lemmas.List.{append-nil}
+use Rattle.std.proofs.lemmas.List.Elements.{filter_more}
 use Rattle.waiting.proofs.WaitingList.take_all.Goals as goal
+use Rattle.waiting.proofs.WaitingList.take_all.Goals.{then-not-asks, else-not-asks}
 
-pub loop-init : goal.loop-init
-loop-init g c = (refl, refl)
-
-pub loop-smaller : goal.loop-smaller
-loop-smaller g c =
-    let p = g.Q.Question.fits c.args.question.now in
-    let some = sym (ap is_some c.take_first.ensures.answer) ∙ sym c.is_some.ensures ∙ c.loop-test.true in
-    let less = fewer p (items c.loop.self) some in
-    let after = ap length c.take_first.ensures.after in
-    omega arith
-
-pub loop-preserved : goal.loop-preserved
-loop-preserved g c =
-    let p = g.Q.Question.fits c.args.question.now in (
-      ap (others p) c.take_first.ensures.after ∙ others_less p (items c.loop.self) ∙ c.loop.invariant.0,
-      c.take_first.ensures.room ∙ c.loop.invariant.1,
-    )
-
-pub returns : goal.returns
-returns g c =
-    let p = g.Q.Question.fits c.args.question.now in
-    let none = sym (ap is_some c.take_first.ensures.answer) ∙ sym c.is_some.ensures ∙ c.loop-test.false in
-    record {
-      after = c.take_first.ensures.after ∙ whole p (items c.loop.self) none
-          ∙ sym (others_all p (items c.loop.self) none) ∙ c.loop.invariant.0;
-      room = c.take_first.ensures.room ∙ c.loop.invariant.1;
-    }
+pub loop-i-preserved : goal.loop-i-preserved
+loop-i-preserved g c =
+    let more = filter_more (λ x. not (g.Q.Question.fits c.args.question.now x)) c.self.inside.slots.now c.loop-i.i c.index-self-i.result in
+    elim c.if-not-asks.branch [
+      | then-not-asks w ↦ grind (arith, common_steps, more)
+      | else-not-asks w ↦ grind (arith, common_steps, more, append-nil)
+    ]

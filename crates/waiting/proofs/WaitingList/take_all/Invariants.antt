@@ -1,12 +1,12 @@
-use Rattle.std.proofs.Common.{◌≡◌, length}
-use Rattle.waiting.specs.Items.{items, places, others}
+use Rattle.std.proofs.Common.{◌≡◌, ◌≤◌, length, take, drop}
+use Rattle.waiting.specs.Items.{others}
 use Rattle.waiting.proofs.WaitingList.take_all.Given as goal
 
--- the others are always the same
-abbrev pub invariant-loop : goal.invariant-loop
-invariant-loop g l =
-    let p = g.Q.Question.fits l.question in
-    (others p (items l.self) ≡ others p (items l.initial.self)) × (places l.self ≡ places l.initial.self)
-
-abbrev pub decreases-loop : goal.decreases-loop
-decreases-loop g l = length (items l.self)
+-- the others of those asked are at the front, and those not asked yet are where they were
+abbrev pub invariant-loop-i : goal.invariant-loop-i
+invariant-loop-i g l = record {
+  kept : take l.self-inside.held l.self-inside.slots.now ≡ others (g.Q.Question.fits l.question) (take l.i l.initial.self-inside.slots.now);
+  rest : drop l.i l.self-inside.slots.now ≡ drop l.i l.initial.self-inside.slots.now;
+  behind : l.self-inside.held ≤ l.i;
+  room : length l.self-inside.slots.now ≡ length l.initial.self-inside.slots.now;
+}

@@ -1,63 +1,54 @@
-use Rattle.std.proofs.Common.{get_or, ap, ◌∙◌, inl, inr, arith}
+use Rattle.std.proofs.Common.{None, ap, ◌∙◌, inl, inr, arith}
 use Rattle.std.specs.Result.{result_ok}
-use Rattle.isup.specs.Codes.{way_of}
-use Rattle.isup.specs.Ranges.{exchange_in}
-use Rattle.decode.specs.Messages.{read_message}
-use Rattle.frames.specs.Framing.{message_octets}
-use Rattle.frames.proofs.Parts.{Long, octets_short, octets_bad, octets_long, no_from, no_to, no_way, with_parts}
+use Rattle.frames.proofs.Parts.{out_of_length, no_from, no_to, no_way, cut_off, sized, all_parts, found_known}
 use Rattle.frames.proofs.frame.framing.envelope_in.Goals as goal
 
-pub returns-then-octets-lt5 : goal.returns-then-octets-lt5
-returns-then-octets-lt5 c = octets_short c.args.octets.now c.if-octets-lt5.true
-
-pub returns-then-end-lt5 : goal.returns-then-end-lt5
-returns-then-end-lt5 c =
-    elim c.then-end-lt5.either [
-      | inl h ↦ octets_bad c.args.octets.now c.if-octets-lt5.false (inl h)
-      | inr h ↦ octets_bad c.args.octets.now c.if-octets-lt5.false (inr h.1)
-    ]
+pub returns-in_default : goal.returns-in_default
+returns-in_default c = out_of_length c.args.octets.now (λ a b. omega arith)
 
 pub returns-in_err-from : goal.returns-in_err-from
-returns-in_err-from c =
-    let xs = c.args.octets.now in
-    let long : Long xs = record { head = omega arith; low = omega arith; high = omega arith } in
-    c.from_residual.ensures
-    ∙ no_from (exchange_in (get_or xs 2 0)) (exchange_in (get_or xs 3 0)) (way_of (get_or xs 4 0)) (result_ok (read_message (message_octets xs))) c.in_err-from.ensures
-    ∙ octets_long xs long
+returns-in_err-from c = c.from_residual.ensures ∙ no_from c.args.octets.now c.in_err-from.ensures
 
 pub returns-in_err-to : goal.returns-in_err-to
 returns-in_err-to c =
-    let xs = c.args.octets.now in
-    let long : Long xs = record { head = omega arith; low = omega arith; high = omega arith } in
-    c.from_residual-in_err-to.ensures
-    ∙ no_to c.in_ok-from.from (exchange_in (get_or xs 2 0)) (exchange_in (get_or xs 3 0)) (way_of (get_or xs 4 0)) (result_ok (read_message (message_octets xs)))
-    c.in_ok-from.ensures c.in_err-to.ensures
-    ∙ octets_long xs long
+    c.from_residual-in_err-to.ensures ∙ no_to c.args.octets.now c.in_ok-from.from c.in_ok-from.ensures c.in_err-to.ensures
 
 pub returns-in_err-way : goal.returns-in_err-way
 returns-in_err-way c =
-    let xs = c.args.octets.now in
-    let long : Long xs = record { head = omega arith; low = omega arith; high = omega arith } in
     c.from_residual-in_err-way.ensures
-    ∙ no_way c.in_ok-from.from c.in_ok-to.to (exchange_in (get_or xs 2 0)) (exchange_in (get_or xs 3 0)) (way_of (get_or xs 4 0))
-    (result_ok (read_message (message_octets xs))) c.in_ok-from.ensures c.in_ok-to.ensures c.in_err-way.ensures
-    ∙ octets_long xs long
+    ∙ no_way c.args.octets.now c.in_ok-from.from c.in_ok-to.to c.in_ok-from.ensures c.in_ok-to.ensures
+    (c.in_err-way.ensures.value ∙ ap result_ok c.try_from.ensures ∙ found_known _ _)
+
+pub returns-in_err-size : goal.returns-in_err-size
+returns-in_err-size c =
+    c.from_residual-in_err-size.ensures ∙ out_of_length c.args.octets.now (λ a b. omega (arith, c.in_err-size.ensures))
+
+pub returns-in_err-get : goal.returns-in_err-get
+returns-in_err-get c =
+    let n = c.in_ok-size.ensures in
+    c.from_residual-in_err-get.ensures
+    ∙ elim c.in_err-get.ensures.lookup.0 [
+      | inl h ↦ absurd (omega arith)
+      | inr h ↦ cut_off c.args.octets.now c.in_ok-size.size (omega arith) h
+    ]
 
 pub returns-in_err-circuit : goal.returns-in_err-circuit
 returns-in_err-circuit c =
     let xs = c.args.octets.now in
-    let long : Long xs = record { head = omega arith; low = omega arith; high = omega arith } in
+    let n = c.in_ok-size.ensures in
+    let at = c.in_ok-get.ensures.lookup.0 in
+    let way = c.in_ok-way.ensures.value ∙ ap result_ok c.try_from.ensures ∙ found_known _ _ in
     c.from_residual-in_err-circuit.ensures
-    ∙ with_parts c.in_ok-from.from c.in_ok-to.to c.in_ok-way.way _ (exchange_in (get_or xs 2 0)) (exchange_in (get_or xs 3 0)) (way_of (get_or xs 4 0))
-    (result_ok (read_message (message_octets xs))) c.in_ok-from.ensures c.in_ok-to.ensures c.in_ok-way.ensures
+    ∙ all_parts xs c.in_ok-get.field-0.now c.in_ok-size.size c.in_ok-from.from c.in_ok-to.to c.in_ok-way.way None (omega arith)
+    (sized xs c.in_ok-get.field-0.now c.in_ok-size.size (omega arith) at.1 at.2) c.in_ok-from.ensures c.in_ok-to.ensures way
     (c.in_err-circuit.ensures.value ∙ ap result_ok c.read.ensures.answer)
-    ∙ octets_long xs long
 
 pub returns : goal.returns
 returns c =
     let xs = c.args.octets.now in
-    let long : Long xs = record { head = omega arith; low = omega arith; high = omega arith } in
-    with_parts c.in_ok-from.from c.in_ok-to.to c.in_ok-way.way _ (exchange_in (get_or xs 2 0)) (exchange_in (get_or xs 3 0)) (way_of (get_or xs 4 0))
-    (result_ok (read_message (message_octets xs))) c.in_ok-from.ensures c.in_ok-to.ensures c.in_ok-way.ensures
+    let n = c.in_ok-size.ensures in
+    let at = c.in_ok-get.ensures.lookup.0 in
+    let way = c.in_ok-way.ensures.value ∙ ap result_ok c.try_from.ensures ∙ found_known _ _ in
+    all_parts xs c.in_ok-get.field-0.now c.in_ok-size.size c.in_ok-from.from c.in_ok-to.to c.in_ok-way.way _ (omega arith)
+    (sized xs c.in_ok-get.field-0.now c.in_ok-size.size (omega arith) at.1 at.2) c.in_ok-from.ensures c.in_ok-to.ensures way
     (c.in_ok-circuit.ensures.value ∙ ap result_ok c.read.ensures.answer)
-    ∙ octets_long xs long
