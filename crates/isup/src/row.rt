@@ -13,6 +13,7 @@ pub enum Row {
 
 impl Row {
     // Whether a name is one of the row's; other names are passed over.
+    // A name stays an octet: a row is asked for any, also for those that no message knows.
     pub fn has(self, name: u8) -> bool
         ensures { result ≡ has self name }
     {

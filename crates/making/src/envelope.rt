@@ -5,6 +5,7 @@ use isup::message::{Circuit, Envelope, Exchange, Message, Way};
 use numbers::refusal::Refusal;
 
 // The envelope of a message from one exchange to another, or a refusal where an exchange is not 0 to 7 or the way not 0 or 1.
+// Exchanges and way are numbers here, since they are what is judged.
 pub fn make_envelope(
     from: u8,
     to: u8,

@@ -57,6 +57,7 @@ pub(crate) struct Contents {
     pub(crate) optional: Optional,
 }
 
+// Each row names all the parts that it has and that it lacks: a test for 'no others' would hide which these are.
 impl Contents {
     fn initial_address(self) -> Result<Message, Refusal>
         ensures { result ≡ or_refused (initial_in self.mandatory self.optional) }

@@ -1,4 +1,5 @@
 // The raw parts of a message: codes and numbers that may be out of range, absent, or in the wrong message.
+// Codes are numbers here and the types are beside those of isup, since a value that is in range already could not be refused.
 use isup::message::{Notice, Redirection, Restriction};
 use numbers::number::{Number, Party};
 

@@ -5,7 +5,7 @@ ghost use Rattle.isup.specs.Ranges.{in_range, circuit_in, circuit_from, circuit_
 use super::{Circuit, Ranged};
 
 impl<const LOW: u8, const HIGH: u8> Ranged<LOW, HIGH> {
-    // The number, if it is in the range.
+    // The number, if it is in the range. An Option, as of the library's NonZeroU8, since there is one way to fail.
     pub fn new(value: u8) -> Option<Ranged<LOW, HIGH>>
         ensures { result ≡ in_range LOW HIGH value }
     {
@@ -34,6 +34,7 @@ impl Circuit {
     }
 
     // The circuit that two octets are worth, the low one first.
+    // No TryFrom: a pair of octets does not say which is the low one.
     pub fn from_octets(low: u8, high: u8) -> Option<Circuit>
         ensures { result ≡ circuit_from low high }
     {
