@@ -1,6 +1,6 @@
 -- Every coding of a message is read as that message.
-use Rattle.std.proofs.Common.{◌≡◌, ℕ, ◌+◌, ◌-◌, ◌<◌, ◌≤◌, Bool, true, false, cond, eqb, ltb, leb, List, [], ◌∷◌, ◌++◌, length, get_or, take, drop, Some, None, Ok, Option, sym, refl, ap, ◌∙◌, subst, arith}
-use Rattle.std.proofs.lemmas.Bool.{cond-true, cond-false, eq-eqb}
+use Rattle.std.proofs.Common.{◌≡◌, ℕ, ◌+◌, ◌-◌, ◌<◌, ◌≤◌, Bool, true, false, cond, ltb, leb, List, [], ◌∷◌, ◌++◌, length, get_or, take, drop, Some, None, Ok, Option, sym, refl, ap, ◌∙◌, subst, arith}
+use Rattle.std.proofs.lemmas.Bool.{cond-false}
 use Rattle.std.proofs.lemmas.Bool.Decides.{nat_tests}
 use Rattle.std.proofs.lemmas.List.{length-append, take_at, drop_at, drop-drop}
 use Rattle.std.specs.Option.{option_map}
@@ -25,8 +25,8 @@ use Rattle.isup.specs.declared.row.Row.TheVariants as row
 use Rattle.isup.specs.Rows.{has}
 use Rattle.isup.specs.Coding.{Parameter, Named, contents, if_there, restriction_octets, optional_octets, field_of, row_of, head_of, variable_of, behind, redirection_field, backward_field}
 use Rattle.isup.specs.Ranges.{circuit_octets, circuit_from}
-use Rattle.isup.specs.Codes.{service_code, status_code, status_of, event_code, event_of}
-use Rattle.isup.proofs.Coded.{found_service, found_status, found_event}
+use Rattle.isup.specs.Codes.{status_code, status_of, event_code, event_of}
+use Rattle.isup.proofs.Coded.{found_status, found_event}
 use Rattle.decode.specs.declared.optional.Gathered.{Gathered}
 use Rattle.decode.specs.Faults.{or_value_fault}
 use Rattle.decode.specs.Values.{cause_from}
@@ -180,13 +180,7 @@ release_read c here qs x k =
     (then_ok (optional_in row.Bare xs 4 8) _ nothing _ (carried_read row.Bare nothing _ here qs bare_fits k xs 4 8 (omega arith) refl refl) refl))
 
 service_read : (c : Circuit) (here : Bool) (qs : List Parameter) (s : Service) (n : Number) (r : Option (Redirection Number)) → service_in (octets_of c (InitialAddress s n r) here qs) ≡ Ok s
-service_read c here qs s n r =
-    let xs = octets_of c (InitialAddress s n r) here qs in
-    then_ok (exact_in xs 3 0x00) _ tt _ (exact_read xs 3 0x00 (omega arith) refl)
-    (then_ok (exact_in xs 4 0x20) _ tt _ (exact_read xs 4 0x20 (omega arith) refl)
-    (then_ok (exact_in xs 5 0x01) _ tt _ (exact_read xs 5 0x01 (omega arith) refl)
-    (then_ok (exact_in xs 6 0x0A) _ tt _ (exact_read xs 6 0x0A (omega arith) refl)
-    (then_ok (octet_in xs 7) _ (service_code s) _ (octet_read xs 7 (omega arith)) (ap (λ o. or_value_fault o 7) (found_service s))))))
+service_read c here qs s n r = grind (arith, nat_tests)
 
 address_read : (c : Circuit) (here : Bool) (qs : List Parameter) (s : Service) (n : Number) (r : Option (Redirection Number)) → Read c here qs (InitialAddress s n r)
 address_read c here qs s n r k =

@@ -1,5 +1,5 @@
 -- An optional part that carries what is to be gathered is read as that.
-use Rattle.std.proofs.Common.{◌≡◌, ℕ, ◌+◌, ◌-◌, ◌<◌, ◌≤◌, Bool, true, false, cond, ◌||◌, eqb, ltb, List, [], ◌∷◌, ◌++◌, length, get_or, drop, Some, None, Ok, Err, Option, Result, sym, refl, ap, ◌∙◌, subst, inl, inr, arith}
+use Rattle.std.proofs.Common.{◌≡◌, ℕ, ◌+◌, ◌-◌, ◌<◌, ◌≤◌, Bool, true, false, cond, ◌||◌, eqb, ltb, List, [], ◌∷◌, ◌++◌, length, get_or, drop, Some, None, Ok, Err, Option, Result, sym, refl, ap, ◌∙◌, inl, inr, arith}
 use Rattle.std.proofs.lemmas.Bool.{cases_Bool, cond-true, cond-false, eq-eqb}
 use Rattle.std.proofs.lemmas.Bool.Decides.{nat_tests, eqb_tells}
 use Rattle.std.proofs.lemmas.List.{length-append, length-drop}
@@ -14,7 +14,7 @@ use Rattle.isup.specs.Coding.{Parameter, encoded, Named, contents, if_there, inf
 use Rattle.decode.specs.declared.fault.MessageFault.{MessageFault}
 use Rattle.decode.specs.declared.optional.Gathered.{Gathered}
 use Rattle.decode.specs.Faults.{then, or_value_fault}
-use Rattle.decode.specs.Values.{is_octet, information_in, diversion_in, restriction_in}
+use Rattle.decode.specs.Values.{information_in, diversion_in, restriction_in}
 use Rattle.decode.specs.Parameters.{Part}
 use Rattle.decode.specs.Optional.{member, repeated, nothing, number_at, octet_at, value_of, collected, unless_repeated, optional_from, with_redirecting, with_original, with_information, with_may_divert, with_announced, with_diversion, with_redirection, with_restriction}
 use Rattle.decode.specs.Messages.{optional_in}
@@ -58,9 +58,7 @@ brought f (Some x) c r with g k e = let y = k x refl (cc) in then_ok r _ y.0 _ y
 brought f None c r with g k e = cc
 
 flag_brought : (b : Bool) (n : ℕ) (c : List ℕ) (at : ℕ) (h g : Gathered) → (b ≡ true → h ≡ g) → cond b ((n ∷ []) ∷ []) [] ≡ c ∷ [] → octet_at at c n h ≡ Ok g
-flag_brought true n c at h g k e =
-    let one : c ≡ n ∷ [] = cc in
-    ap (λ (l : List ℕ). octet_at at l n h) one ∙ cond-true (is_octet (n ∷ []) n) _ _ (eq-eqb n n refl) ∙ ap (λ (x : Gathered). Ok x) (k refl)
+flag_brought true n c at h g k e = grind (arith, nat_tests)
 flag_brought false n c at h g k e = cc
 
 -- a name under which something stands is one of the eight
@@ -79,24 +77,8 @@ brings names t c at n =
     let z : gathered_field t n ≡ [] = grind (arith, nat_tests) in cc))))))))
 
 -- no more than one content stands under a name
-there_once : {X : Type 0} (f : X → List ℕ) (o : Option X) → length (if_there f o) ≤ 1
-there_once f (Some x) = omega arith
-there_once f None = omega arith
-
-cond_once : {A : Type 0} (b : Bool) (x y : List A) → length x ≤ 1 → length y ≤ 1 → length (cond b x y) ≤ 1
-cond_once true x y h k = h
-cond_once false x y h k = k
-
 once : (t : Gathered) (n : ℕ) → length (gathered_field t n) ≤ 1
-once t n =
-    cond_once (eqb n 0x0B) _ _ (there_once content t.redirecting)
-    (cond_once (eqb n 0x28) _ _ (there_once content t.original)
-    (cond_once (eqb n 0x13) _ _ (there_once information_octets t.information)
-    (cond_once (eqb n 0x29) _ _ (cond_once t.may_divert _ _ (omega arith) (omega arith))
-    (cond_once (eqb n 0x2C) _ _ (cond_once t.announced _ _ (omega arith) (omega arith))
-    (cond_once (eqb n 0x36) _ _ (there_once diversion_octets t.diversion)
-    (cond_once (eqb n 0x0C) _ _ (there_once plain t.redirection)
-    (cond_once (eqb n 0x40) _ _ (there_once restriction_octets t.restriction) (omega arith))))))))
+once t n = grind (arith, nat_tests)
 
 alone : {A : Type 0} (x : A) (xs l : List A) → x ∷ xs ≡ l → length l ≤ 1 → xs ≡ []
 alone x [] l e h = refl

@@ -1,18 +1,16 @@
 -- The octets of a value are read as that value.
-use Rattle.std.proofs.Common.{◌≡◌, ℕ, ◌+◌, ◌-◌, ◌*◌, ◌/◌, ◌%◌, ◌≤◌, true, leb, [], ◌∷◌, Some, Option, refl, ap, ◌∙◌, arith}
+use Rattle.std.proofs.Common.{◌≡◌, ℕ, ◌+◌, ◌-◌, ◌*◌, ◌/◌, ◌%◌, true, leb, [], ◌∷◌, Some, Option, refl, ap, ◌∙◌, arith}
 use Rattle.std.proofs.lemmas.Bool.{cond-true}
 use Rattle.std.proofs.lemmas.Bool.Decides.{nat_tests}
-use Rattle.isup.specs.declared.message.Notification.{Notification}
-use Rattle.isup.specs.declared.message.Notification.TheVariants as notification
 use Rattle.isup.specs.Ranges.{Cause}
 use Rattle.isup.specs.declared.message.Circuit.{Circuit}
 use Rattle.isup.specs.declared.message.RedirectionInformation.{RedirectionInformation}
 use Rattle.isup.specs.declared.message.DiversionInformation.{DiversionInformation}
 use Rattle.isup.specs.declared.message.Restriction.{Restriction}
 use Rattle.isup.specs.Ranges.{cause_in, count_in, circuit_in, circuit_from}
-use Rattle.isup.specs.Codes.{reason_code, reason_of, notification_code, notification_of, indicator_code, indicator_of}
+use Rattle.isup.specs.Codes.{reason_code, reason_of, indicator_code, indicator_of}
 use Rattle.isup.specs.Coding.{information_octets, diversion_octets, restriction_octets}
-use Rattle.isup.proofs.Coded.{found_reason, found_notification, found_indicator, found_restriction, found_ranged, found_circuit}
+use Rattle.isup.proofs.Coded.{found_reason, found_indicator, found_restriction, found_ranged, found_circuit}
 use Rattle.decode.specs.Values.{and_then, information_in, diversion_in, restriction_in, cause_from}
 
 -- one reading after another where the first succeeds
@@ -28,20 +26,8 @@ information_read i =
     (and_then_lem (count_in ((reason_code i.reason * 16 + i.count.value) % 16)) _ i.count _ (ap count_in low ∙ found_ranged i.count)
     (and_then_lem (reason_of ((reason_code i.reason * 16 + i.count.value) / 16)) _ i.reason _ (ap reason_of high ∙ found_reason i.reason) refl))
 
-notification_small : (o : Notification) → notification_code o ≤ 3
-notification_small notification.Unknown = omega arith
-notification_small notification.NotAllowed = omega arith
-notification_small notification.WithNumber = omega arith
-notification_small notification.WithoutNumber = omega arith
-
 pub diversion_read : (d : DiversionInformation) → diversion_in (diversion_octets d) ≡ Some d
-diversion_read d =
-    let n = notification_small d.notification in
-    let low : (reason_code d.reason * 8 + notification_code d.notification) % 8 ≡ notification_code d.notification = omega arith in
-    let high : (reason_code d.reason * 8 + notification_code d.notification) / 8 ≡ reason_code d.reason = omega arith in
-    and_then_lem (notification_of ((reason_code d.reason * 8 + notification_code d.notification) % 8)) _ d.notification _
-    (ap notification_of low ∙ found_notification d.notification)
-    (and_then_lem (reason_of ((reason_code d.reason * 8 + notification_code d.notification) / 8)) _ d.reason _ (ap reason_of high ∙ found_reason d.reason) refl)
+diversion_read d = grind (arith, nat_tests)
 
 pub restriction_read : (r : Restriction) → restriction_in (restriction_octets r) ≡ Some r
 restriction_read r = found_restriction r

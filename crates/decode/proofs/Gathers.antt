@@ -1,8 +1,7 @@
 -- What is gathered from the optional part is what its parameters carry.
 use Rattle.std.proofs.Common.{◌≡◌, ℕ, Bool, true, false, cond, eqb, List, [], ◌∷◌, ◌++◌, Some, None, Ok, Option, Result, sym, refl, ap, ◌∙◌, subst, inl, inr, arith}
-use Rattle.std.proofs.lemmas.Bool.Decides.{nat_tests, eqb_tells}
+use Rattle.std.proofs.lemmas.Bool.Decides.{nat_tests}
 use Rattle.std.proofs.lemmas.Bool.{or_parts, cases_Bool, cond-true, cond-false}
-use Rattle.std.proofs.lemmas.List.{append-nil}
 use Rattle.numbers.specs.Digits.{content, plain}
 use Rattle.numbers.proofs.Contents.{passed}
 use Rattle.isup.specs.declared.row.Row.{Row}
@@ -29,10 +28,7 @@ Placed g n c h = (m : ℕ) → gathered_field h m ≡ cond (eqb m n) (c ∷ []) 
 placed :
     {X : Type 0} (g h : Gathered) (n : ℕ) (c : List ℕ) (octets : X → List ℕ) (with : X → Gathered) (r : Result X MessageFault) →
     ((x : X) → r ≡ Ok x → c ≡ octets x) → ((x : X) → Placed g n (octets x) (with x)) → then r (λ x. Ok (with x)) ≡ Ok h → Placed g n c h
-placed g h n c octets with r from puts e =
-    let b = both r (λ x. Ok (with x)) h e in
-    let is : with b.value ≡ h = cc b.next in
-    subst (Placed g n c) is (subst (λ (l : List ℕ). Placed g n l (with b.value)) (sym (from b.value b.first)) (puts b.value))
+placed g h n c octets with r from puts e = grind (arith, nat_tests)
 
 placed_octet :
     (g h k : Gathered) (n octet place : ℕ) (c : List ℕ) → Placed g n (octet ∷ []) k → octet_at place c octet k ≡ Ok h → Placed g n c h
@@ -78,18 +74,12 @@ nothing_unmet row n m k = grind (arith, nat_tests)
 one_more :
     (row : Row) (met : List ℕ) (g h : Gathered) (p : Part) (rest : List (List ℕ)) (n : ℕ) → Placed g p.name p.content h → member p.name met ≡ false → Unmet row met g →
     has row n ≡ true → gathered_field h n ++ rest ≡ gathered_field g n ++ cond (eqb n p.name) (p.content ∷ rest) rest
-one_more row met g h p rest n put new empty k =
-    elim (eqb_tells n p.name) [
-      | inl t ↦ rw (put n, t.0, empty n (ap (λ (x : ℕ). member x met) t.1 ∙ new) k)
-      | inr t ↦ rw (put n, t.0)
-    ]
+one_more row met g h p rest n put new empty k = grind (arith, nat_tests)
 
 gathers :
     (row : Row) (met : List ℕ) (g h : Gathered) (ps : List Part) → repeated row met ps ≡ None → collected row g ps ≡ Ok h → Unmet row met g →
     (n : ℕ) → has row n ≡ true → gathered_field h n ≡ gathered_field g n ++ contents n (without_places ps)
-gathers row met g h [] r e empty n k =
-    let is : h ≡ g = cc in
-    ap (λ (x : Gathered). gathered_field x n) is ∙ sym (append-nil (gathered_field g n))
+gathers row met g h [] r e empty n k = grind (arith, nat_tests)
 gathers row met g h (p ∷ ps) r e empty n k =
     elim (cases_Bool (has row p.name)) [
       | inl t ↦

@@ -1,5 +1,5 @@
 -- Accepted octets are a coding of the message answered, and refused ones of none.
-use Rattle.std.proofs.Common.{◌≡◌, ℕ, List, Ok, Err, Result, sym, ◌∙◌, arith}
+use Rattle.std.proofs.Common.{◌≡◌, ℕ, List, Ok, Err, Result, sym, ◌∙◌}
 use Rattle.numbers.specs.declared.number.Number.{Number}
 use Rattle.isup.specs.declared.message.Circuit.{Circuit}
 use Rattle.isup.specs.declared.message.Message.{Message}

@@ -1,11 +1,11 @@
 -- Octets that are read as a message are a coding of it.
-use Rattle.std.proofs.Common.{◌≡◌, ℕ, ◌+◌, ◌*◌, ◌/◌, ◌%◌, ◌≤◌, Bool, true, false, cond, eqb, ltb, leb, List, [], ◌∷◌, length, get_or, Some, None, Ok, Err, Option, sym, refl, ap, ◌∙◌, subst, arith}
+use Rattle.std.proofs.Common.{◌≡◌, ℕ, ◌+◌, ◌≤◌, true, false, ltb, leb, List, [], ◌∷◌, length, get_or, Some, None, Ok, Err, Option, ap, ◌∙◌, subst, arith}
 use Rattle.std.proofs.lemmas.Bool.Decides.{nat_tests}
 use Rattle.std.proofs.lemmas.Bool.{eqb-true, ltb-false}
 use Rattle.numbers.specs.declared.number.Number.{Number}
-use Rattle.numbers.specs.Digits.{content, plain}
+use Rattle.numbers.specs.Digits.{plain}
 use Rattle.numbers.specs.Reading.{read_number}
-use Rattle.numbers.proofs.Contents.{passed, passed_not}
+use Rattle.numbers.proofs.Contents.{passed_not}
 use Rattle.isup.specs.declared.message.Circuit.{Circuit}
 use Rattle.isup.specs.declared.message.Service.{Service}
 use Rattle.isup.specs.declared.message.Redirection.{Redirection}
@@ -16,72 +16,37 @@ use Rattle.isup.specs.declared.message.Message.TheVariants.{InitialAddress, Addr
 use Rattle.isup.specs.declared.row.Row.TheVariants as row
 use Rattle.isup.specs.Rows.{has}
 use Rattle.isup.specs.Ranges.{circuit_from, circuit_octets}
-use Rattle.isup.specs.Codes.{service_of, service_code, status_of, status_code, event_of, event_code}
-use Rattle.isup.specs.Coding.{Coded, if_there, information_octets, diversion_octets, restriction_octets, redirection_field, backward_field, field_of, row_of, head_of, variable_of}
-use Rattle.isup.proofs.Coded.{code_of_found, numbers_of_circuit}
+use Rattle.isup.specs.Codes.{service_code, status_of, status_code, event_of, event_code}
+use Rattle.isup.specs.Coding.{Coded, if_there, restriction_octets, redirection_field, backward_field, field_of, row_of, head_of, variable_of}
+use Rattle.isup.proofs.Coded.{code_of_found}
 use Rattle.decode.specs.declared.fault.MessageFault.TheVariants as fault
 use Rattle.decode.specs.declared.optional.Gathered.{Gathered}
 use Rattle.decode.specs.Faults.{or_value_fault}
 use Rattle.decode.specs.Values.{cause_from}
 use Rattle.decode.specs.Optional.{number_at}
-use Rattle.decode.specs.Messages.{octet_in, exact_in, variable_in, optional_in, tail_in, all_or_none, redirection_in, if_announced, notice_in, service_in, initial_address_in, backward_in, address_complete_in, call_progress_in, answer_in, connect_in, release_in, message_in}
+use Rattle.decode.specs.Messages.{octet_in, exact_in, variable_in, optional_in, tail_in, redirection_in, notice_in, service_in, initial_address_in, backward_in, address_complete_in, call_progress_in, answer_in, connect_in, release_in, message_in}
 use Rattle.decode.specs.Reading.{OnlyCodingsAreRead}
 use Rattle.decode.proofs.ValuesRead.{cause_octets, plain_octets}
 use Rattle.decode.proofs.Fields.{gathered_field}
-use Rattle.decode.proofs.Passed.{value_found, both, by_number, by_name}
-use Rattle.decode.proofs.Behind.{octets_from, one_by_one, BehindRead, tail_read, with_variable}
+use Rattle.decode.proofs.Passed.{value_found, both, by_number}
+use Rattle.decode.proofs.Behind.{octets_from, BehindRead, tail_read, with_variable}
 
 octet_read : (xs : List ℕ) (at n : ℕ) → octet_in xs at ≡ Ok n → get_or xs at 0 ≡ n
 octet_read xs at n e = let a = passed_not (leb (length xs) at) n (fault.Missing at) (Ok (get_or xs at 0)) e in cc a.1
 
 exact_read : (xs : List ℕ) (at n : ℕ) (u : Unit {0}) → exact_in xs at n ≡ Ok u → get_or xs at 0 ≡ n
-exact_read xs at n u e =
-    let a = passed_not (leb (length xs) at) u (fault.Missing at) _ e in
-    eqb-true (get_or xs at 0) n (passed (eqb (get_or xs at 0) n) u (fault.Value at None) (Ok tt) a.1).0
-
--- what holds where all three parts stand, and where none does, holds of what was read
-all_or_none_lem :
-    {A B C D : Type 0} (f : A → B → C → D) (P : Option A → Option B → Option C → Option D → Type 0) →
-    ((x : A) (y : B) (z : C) → P (Some x) (Some y) (Some z) (Some (f x y z))) → P None None None None →
-    (a : Option A) (b : Option B) (c : Option C) (n : ℕ) (d : Option D) → all_or_none f a b c n ≡ Ok d → P a b c d
-all_or_none_lem f P all none (Some x) (Some y) (Some z) n d e = let is : Some (f x y z) ≡ d = cc in subst (P (Some x) (Some y) (Some z)) is (all x y z)
-all_or_none_lem f P all none (Some x) (Some y) None n d e = cc
-all_or_none_lem f P all none (Some x) None c n d e = cc
-all_or_none_lem f P all none None (Some y) c n d e = cc
-all_or_none_lem f P all none None None (Some z) n d e = cc
-all_or_none_lem f P all none None None None n d e = let is : None ≡ d = cc in subst (P None None None) is none
+exact_read xs at n u e = grind (arith, nat_tests)
 
 -- what stands under the names of a row is what the message calls for
 redirection_fields :
     (g : Gathered) (len : ℕ) (r : Option (Redirection Number)) → redirection_in g len ≡ Ok r →
     (n : ℕ) → has row.Initial n ≡ true → gathered_field g n ≡ redirection_field r n
-redirection_fields g len r e n k =
-    let same =
-    all_or_none_lem (λ a b i. record { redirecting = a; original = b; information = i })
-    (λ a b i r. (if_there content a ≡ if_there (λ (x : Redirection Number). content x.redirecting) r)
-    × (if_there content b ≡ if_there (λ (x : Redirection Number). content x.original) r)
-    × (if_there information_octets i ≡ if_there (λ (x : Redirection Number). information_octets x.information) r))
-    (λ a b i. (refl, refl, refl)) (refl, refl, refl) g.redirecting g.original g.information len r e in
-    let P : ℕ → Type 0 = λ n. gathered_field g n ≡ redirection_field r n in
-    by_name P n 0x0B same.0 (λ n0b. by_name P n 0x28 same.1 (λ n28. by_name P n 0x13 same.2 (λ n13. absurd (grind (arith, nat_tests)))))
-
-announced : (b : Bool) → if_there (λ _. 0xFB ∷ []) (if_announced b) ≡ cond b ((0xFB ∷ []) ∷ []) []
-announced true = refl
-announced false = refl
+redirection_fields g len r e n k = grind (arith, nat_tests)
 
 backward_fields :
     (g : Gathered) (len : ℕ) (m : Option (Notice Number)) → notice_in g len ≡ Ok m → (n : ℕ) → has row.Backward n ≡ true →
     gathered_field g n ≡ backward_field (record { may_divert = g.may_divert; notice = m; restriction = g.restriction }) n
-backward_fields g len m e n k =
-    let same =
-    all_or_none_lem (λ _ d r. record { information = d; number = r })
-    (λ a d r m. (if_there (λ _. 0xFB ∷ []) a ≡ if_there (λ (x : Notice Number). 0xFB ∷ []) m)
-    × (if_there diversion_octets d ≡ if_there (λ (x : Notice Number). diversion_octets x.information) m)
-    × (if_there plain r ≡ if_there (λ (x : Notice Number). plain x.number) m))
-    (λ a d r. (refl, refl, refl)) (refl, refl, refl) (if_announced g.announced) g.diversion g.redirection len m e in
-    let P : ℕ → Type 0 = λ n. gathered_field g n ≡ backward_field (record { may_divert = g.may_divert; notice = m; restriction = g.restriction }) n in
-    by_name P n 0x29 refl (λ n29. by_name P n 0x2C (sym (announced g.announced) ∙ same.0) (λ n2c. by_name P n 0x36 same.1 (λ n36.
-    by_name P n 0x0C same.2 (λ n0c. by_name P n 0x40 refl (λ n40. absurd (grind (arith, nat_tests)))))))
+backward_fields g len m e n k = grind (arith, nat_tests)
 
 connected_fields : (g : Gathered) (n : ℕ) → has row.Connected n ≡ true → gathered_field g n ≡ if_there restriction_octets g.restriction
 connected_fields g n k = ap (gathered_field g) (eqb-true n 0x40 k)
@@ -94,18 +59,7 @@ record MessageRead (xs : List ℕ) (m : Message Number) : Type 0 where
   pub rest : BehindRead (row_of m) xs (2 + length (head_of m)) (variable_of m) gathered
 
 service_read : (xs : List ℕ) (s : Service) → service_in xs ≡ Ok s → octets_from 5 3 xs ≡ 0x00 ∷ 0x20 ∷ 0x01 ∷ 0x0A ∷ service_code s ∷ []
-service_read xs s e =
-    let a = both (exact_in xs 3 0x00) _ s e in
-    let b = both (exact_in xs 4 0x20) _ s a.next in
-    let c = both (exact_in xs 5 0x01) _ s b.next in
-    let d = both (exact_in xs 6 0x0A) _ s c.next in
-    let f = both (octet_in xs 7) (λ code. or_value_fault (service_of code) 7) s d.next in
-    let x3 = exact_read xs 3 0x00 a.value a.first in
-    let x4 = exact_read xs 4 0x20 b.value b.first in
-    let x5 = exact_read xs 5 0x01 c.value c.first in
-    let x6 = exact_read xs 6 0x0A d.value d.first in
-    let x7 : get_or xs 7 0 ≡ service_code s = octet_read xs 7 f.value f.first ∙ search (code_of_found, value_found (service_of f.value) 7 s f.next) in
-    cc
+service_read xs s e = grind (arith, nat_tests)
 
 initial_address : (xs : List ℕ) (m : Message Number) → get_or xs 2 0 ≡ 0x01 → initial_address_in xs ≡ Ok m → MessageRead xs m
 initial_address xs m kind e =
@@ -203,32 +157,10 @@ message_read xs m =
     (by_number (get_or xs 2 0) 0x0C (release_in xs) (Err fault.Kind) m (release xs m) (λ e. cc))))))
 
 circuit_read : (low high : ℕ) (c : Circuit) → low ≤ 255 → circuit_from low high ≡ Some c → low ∷ high ∷ [] ≡ circuit_octets c
-circuit_read low high c octet e =
-    let n = numbers_of_circuit ((high * 256 + low) / 8) ((high * 256 + low) % 8) c e in
-    let call = n.0 in
-    let leg = n.1 in
-    let value : 8 * c.call + c.leg ≡ high * 256 + low = omega arith in
-    let l : low ≡ (8 * c.call + c.leg) % 256 = omega arith in
-    let h : high ≡ (8 * c.call + c.leg) / 256 = omega arith in
-    cc
+circuit_read low high c octet e = grind (arith, nat_tests)
 
 coded : (xs : List ℕ) (c : Circuit) (m : Message Number) → 3 ≤ length xs → length xs ≤ 255 → octets_from 2 0 xs ≡ circuit_octets c → MessageRead xs m → Coded c m xs
-coded xs c m long short circuit t =
-    let part = t.rest.part in
-    let inside = t.rest.within in
-    let all = one_by_one 2 0 xs (omega arith) in
-    let body = one_by_one (length (head_of m)) 2 xs (omega arith) in
-    let head = t.head in
-    let rest = t.rest.octets in
-    record {
-      short = short;
-      there = part.there;
-      parameters = part.parameters;
-      absent = part.absent;
-      named = part.named;
-      carries = λ n k. part.carries n k ∙ t.fields n k;
-      same = cc;
-    }
+coded xs c m long short circuit t = grind (arith, nat_tests)
 
 pub only_codings_are_read : OnlyCodingsAreRead
 only_codings_are_read xs c m octets e =
