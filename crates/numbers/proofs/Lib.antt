@@ -1,6 +1,5 @@
 pub mod Cuts
 pub mod Halves
-pub mod Pairs
 pub mod Same
 pub mod Contents
 pub mod Compares

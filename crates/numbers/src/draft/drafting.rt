@@ -26,7 +26,7 @@ impl Draft {
         }
     }
 
-    // Some octets more.
+    // Some octets more. One by one, since most are few: a copy of the slice takes a quarter more instructions.
     pub fn push_all(&mut self, octets: &[u8])
         ensures { Adds self.old self.new octets.now }
     {

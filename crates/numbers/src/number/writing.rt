@@ -7,15 +7,19 @@ use super::{Number, Party};
 use crate::draft::Draft;
 use crate::refusal::Refusal;
 
-// Two digits in an octet, the earlier in the low half; one alone is filled with 0.
-fn octet_of(pair: &[u8]) -> u8
-    requires { (0 < length pair.now) × ((length pair.now ≤ 2) × ((k : ℕ) → slice_index pair.now k ≤ 9)) }
-    ensures { result ∷ [] ≡ pack pair.now }
+// Adds digits to a draft, two to an octet, the earlier in the low half; one that is left is filled with 0.
+// By a slice pattern, since `chunks(2)` takes a tenth more instructions.
+fn draft_digits(digits: &[u8], draft: &mut Draft)
+    requires { (k : ℕ) → slice_index digits.now k ≤ 9 }
+    ensures { Adds draft.old draft.new (pack digits.now) }
 {
-    match *pair {
-        [low, high] => (high << 4) | low,
-        [low] => low,
-        _ => unreachable!(),
+    let mut left = digits;
+    while let [low, high, rest @ ..] = left {
+        draft.push((high << 4) | low);
+        left = rest;
+    }
+    if let Some(last) = left.first() {
+        draft.push(*last);
     }
 }
 
@@ -25,7 +29,7 @@ impl Party<Number> {
         ensures count { result ≡ length (content self.now) }
         ensures bound { result ≤ 10 }
     {
-        2 + self.number.digits().len().div_ceil(2)
+        2 + (self.number.digits().len() + 1) / 2
     }
 
     // Adds the content to a draft.
@@ -36,9 +40,7 @@ impl Party<Number> {
         let nature = if digits.len() % 2 == 1 { 0x83 } else { 0x03 };
         let plan = if self.restricted { 0x14 } else { 0x10 };
         draft.push_all(&[nature, plan]);
-        for pair in digits.chunks(2) {
-            draft.push(octet_of(pair));
-        }
+        draft_digits(digits, draft);
     }
 }
 
