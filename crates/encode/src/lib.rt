@@ -1,19 +1,20 @@
 // Writing messages octet for octet.
 #![tactic(auto)]
 
-ghost use Rattle.std.specs.Prelude.{◌≡◌, ◌++◌};
-ghost use Rattle.numbers.specs.Drafts.{drafted, cut};
+ghost use Rattle.std.specs.Prelude.{◌≡◌};
+ghost use Rattle.numbers.specs.Drafts.{Adds};
 ghost use Rattle.isup.specs.declared.message.Message.TheVariants.{InitialAddress};
 ghost use Rattle.encode.specs.Sending.{only_restriction};
 ghost use Rattle.encode.specs.Writing.{body, MessageWritten};
 
-use isup::message::{Backward, Circuit, Message, Redirection, Restriction, Service};
+use isup::message::{Backward, Circuit, Message, MessageKind, Redirection, Restriction, Service};
 use numbers::draft::Draft;
 use numbers::number::{Number, Party};
 use numbers::refusal::Refusal;
-use optional::{draft_backward, draft_redirection};
+use part::Part;
 
 mod optional;
+mod part;
 pub mod worked;
 
 // An initial address behind its circuit. The pointer to the optional part counts itself, the called number's length and its content.
@@ -23,18 +24,16 @@ fn draft_initial(
     redirection: Option<Redirection<Number>>,
     draft: &mut Draft,
 )
-    ensures { drafted draft.new ≡ cut (drafted draft.old ++ body (InitialAddress service called redirection)) }
+    ensures { Adds draft.old draft.new (body (InitialAddress service called redirection)) }
 {
-    let called = Party {
-        number: called,
-        restricted: false,
-    };
+    let called = Party::from(called);
     let len = called.content_len() as u8;
     let pointer = if redirection.is_some() { 2 + len } else { 0x00 };
-    draft.push_all(&[0x01, 0x00, 0x20, 0x01, 0x0A, service.code()]);
+    let kind = MessageKind::InitialAddress as u8;
+    draft.push_all(&[kind, 0x00, 0x20, 0x01, 0x0A, service.into()]);
     draft.push_all(&[0x02, pointer, len]);
     called.draft(draft);
-    draft_redirection(redirection, draft);
+    redirection.draft(draft);
 }
 
 // The optional parts of an answer or a connect: those of an address complete that has no others.
@@ -49,40 +48,38 @@ fn only_restriction(restriction: Option<Restriction>) -> Backward<Number>
 }
 
 // A message behind its circuit.
-fn draft_body(message: &Message<Number>, draft: &mut Draft)
-    ensures { drafted draft.new ≡ cut (drafted draft.old ++ body message.now) }
-{
-    match *message {
-        Message::InitialAddress(service, called, redirection) => draft_initial(
-            service,
-            called,
-            redirection,
-            draft,
-        ),
-        Message::AddressComplete(status, backward) => {
-            draft.push_all(&[0x06, status.code(), 0x14]);
-            draft_backward(&backward, draft);
+impl Part for Message<Number> {
+    ghost octets = { body };
+
+    fn draft(&self, draft: &mut Draft) {
+        match *self {
+            Message::InitialAddress(service, called, redirection) => draft_initial(
+                service,
+                called,
+                redirection,
+                draft,
+            ),
+            Message::AddressComplete(status, backward) => {
+                draft.push_all(&[MessageKind::AddressComplete as u8, status.into(), 0x14]);
+                backward.draft(draft);
+            }
+            Message::CallProgress(event, backward) => {
+                draft.push_all(&[MessageKind::CallProgress as u8, event.into()]);
+                backward.draft(draft);
+            }
+            Message::Answer(restriction) => {
+                draft.push(MessageKind::Answer as u8);
+                only_restriction(restriction).draft(draft);
+            }
+            Message::Connect(restriction) => {
+                draft.push_all(&[MessageKind::Connect as u8, 0x04, 0x14]);
+                only_restriction(restriction).draft(draft);
+            }
+            Message::Release(cause) => {
+                draft.push_all(&[MessageKind::Release as u8, 0x02, 0x00]);
+                draft.push_all(&[2, 0x82, 0x80 | cause.value()]);
+            }
         }
-        Message::CallProgress(event, backward) => {
-            draft.push_all(&[0x2C, event.code()]);
-            draft_backward(&backward, draft);
-        }
-        Message::Answer(restriction) => {
-            draft.push(0x09);
-            draft_backward(&only_restriction(restriction), draft);
-        }
-        Message::Connect(restriction) => {
-            draft.push_all(&[0x07, 0x04, 0x14]);
-            draft_backward(&only_restriction(restriction), draft);
-        }
-        Message::Release(cause) => draft.push_all(&[
-            0x0C,
-            0x02,
-            0x00,
-            2,
-            0x82,
-            0x80 | cause.value(),
-        ]),
     }
 }
 
@@ -97,6 +94,6 @@ pub fn write(
 {
     let mut draft = Draft::new();
     draft.push_all(&circuit.octets());
-    draft_body(message, &mut draft);
+    message.draft(&mut draft);
     draft.write_to(memory)
 }

@@ -1,10 +1,10 @@
 // Making a number from its digits.
-ghost use Rattle.std.specs.Prelude.{◌≡◌, MatchResult};
+ghost use Rattle.std.specs.Prelude.{◌≡◌, false, MatchResult};
 ghost use Rattle.numbers.specs.declared.refusal.Refusal.TheVariants.{OutOfRange};
 ghost use Rattle.numbers.specs.Digits.{digits_of, Lawful};
 ghost use Rattle.numbers.specs.Reading.{EqualDigitsEqualNumbers};
 
-use super::Number;
+use super::{Number, Party};
 use crate::refusal::Refusal;
 
 impl TryFrom<&[u8]> for Number {
@@ -37,6 +37,18 @@ impl Number {
         ensures { result.now ≡ digits_of self.now }
     {
         &self.digits[..self.count]
+    }
+}
+
+// A number that carries no mark: nothing restricts that it is presented.
+impl From<Number> for Party<Number> {
+    ghost from_gives = { λ number party. party ≡ record { number = number; restricted = false } };
+
+    fn from(number: Number) -> Party<Number> {
+        Party {
+            number,
+            restricted: false,
+        }
     }
 }
 
