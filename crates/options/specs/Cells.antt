@@ -32,6 +32,7 @@ abbrev pub is_withheld : Number → Cell → Bool
 is_withheld number (Diversion n s k r) = false
 is_withheld number (Withheld n) = same_number number n
 
+-- the record that a cell holds, where there is such a cell
 abbrev pub record_in : Option Cell → Option (Record Number)
 record_in None = None
 record_in (Some (Diversion n s k r)) = Some r
