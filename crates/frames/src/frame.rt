@@ -6,7 +6,7 @@ pub mod framing;
 mod keeping;
 
 // The length of what follows in two octets, the high one first, then from, to, way and the message. What stands behind the
-// message is open.
+// message is open. The octets stand in the frame itself, since the owner lends its memory.
 #[derive(Clone, Copy)]
 pub struct Frame {
     octets: [u8; 64],

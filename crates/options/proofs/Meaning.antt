@@ -14,7 +14,7 @@ use Rattle.options.specs.declared.record.Kind.{Kind}
 use Rattle.options.specs.declared.cells.Cell.{Cell}
 use Rattle.options.specs.declared.cells.Cell.TheVariants.{Diversion, Withheld}
 use Rattle.options.specs.Records.{same_kind, same_service}
-use Rattle.options.specs.Cells.{covers, is_diversion, single, is_withheld, record_in, withheld_in, Single, Diverted, Marked}
+use Rattle.options.specs.Cells.{covers, is_diversion, for_one, is_withheld, record_in, withheld_in, Single, Diverted, Marked}
 use Rattle.options.proofs.Lists.{earliest_without, count_without, length_without, count_push, count_none}
 
 both : (a b : Bool) → (a && b) ≡ true → (a ≡ true) × (b ≡ true)
@@ -30,7 +30,7 @@ same_service_lem a b t = grind arith
 -- a cell that fits a question of one number, service and kind is meant by a change exactly where these are
 pub fits_covers :
     (meant : Diversions) (n : Number) (s : Service) (k : Kind) (x : Cell) →
-    is_diversion (single n s k) x ≡ true → is_diversion meant x ≡ covers meant n s k
+    is_diversion (for_one n s k) x ≡ true → is_diversion meant x ≡ covers meant n s k
 fits_covers meant n s k (Diversion m t j r) e =
     let number = both (same_number n m) (same_service s t && same_kind k j) e in
     let others = both (same_service s t) (same_kind k j) number.1 in
@@ -61,7 +61,7 @@ some_none b o = grind arith
 
 single_without : (p : Cell → Bool) (cells : List Cell) → Single cells → Single (others p cells)
 single_without p cells σ = record {
-  diversions = λ n s k. (let a = count_without p (is_diversion (single n s k)) cells in let b = σ.diversions n s k in omega arith);
+  diversions = λ n s k. (let a = count_without p (is_diversion (for_one n s k)) cells in let b = σ.diversions n s k in omega arith);
   numbers = λ n. (let a = count_without p (is_withheld n) cells in let b = σ.numbers n in omega arith);
 }
 
@@ -76,11 +76,11 @@ pub diverted_without :
     Diverted cells (holding cells (others (is_diversion meant) cells.items)) meant None 0
 diverted_without cells meant = record {
   held = λ n s k.
-      ap record_in (earliest_without (is_diversion meant) (is_diversion (single n s k)) (covers meant n s k) (fits_covers meant n s k) cells.items)
-      ∙ record_none (covers meant n s k) (earliest (is_diversion (single n s k)) cells.items);
+      ap record_in (earliest_without (is_diversion meant) (is_diversion (for_one n s k)) (covers meant n s k) (fits_covers meant n s k) cells.items)
+      ∙ record_none (covers meant n s k) (earliest (is_diversion (for_one n s k)) cells.items);
   withheld = withheld_without cells.items meant;
   count = (let h = length_without (is_diversion meant) cells.items in omega arith);
-  at_most_one = single_without (is_diversion meant) cells.items;
+  single = single_without (is_diversion meant) cells.items;
   room = refl;
 }
 
@@ -90,12 +90,12 @@ pub marked_without :
     Marked cells (holding cells (others (is_withheld number) cells.items)) number false (count_by (is_withheld number) cells.items) 0
 marked_without cells number = record {
   held = λ n s k.
-      ap record_in (earliest_without (is_withheld number) (is_diversion (single n s k)) false (diversion_apart number (single n s k)) cells.items);
+      ap record_in (earliest_without (is_withheld number) (is_diversion (for_one n s k)) false (diversion_apart number (for_one n s k)) cells.items);
   withheld = λ n.
       ap is_some (earliest_without (is_withheld number) (is_withheld n) (same_number number n) (withheld_same number n) cells.items)
       ∙ some_none (same_number number n) (earliest (is_withheld n) cells.items);
   count = (let h = length_without (is_withheld number) cells.items in omega arith);
-  at_most_one = single_without (is_withheld number) cells.items;
+  single = single_without (is_withheld number) cells.items;
   room = refl;
 }
 
@@ -131,7 +131,7 @@ pub marked_push :
     Marked cells (holding cells (cells.items ++ (Withheld number ∷ []))) number true 0 (cond (withheld_in cells.items number) 0 1)
 marked_push cells number none = record {
   held = λ n s k.
-      ap record_in (find-append (is_diversion (single n s k)) cells.items (Withheld number ∷ []) ∙ or_none (earliest (is_diversion (single n s k)) cells.items));
+      ap record_in (find-append (is_diversion (for_one n s k)) cells.items (Withheld number ∷ []) ∙ or_none (earliest (is_diversion (for_one n s k)) cells.items));
   withheld = λ n.
       ap is_some (find-append (is_withheld n) cells.items (Withheld number ∷ []))
       ∙ some_or (earliest (is_withheld n) cells.items) (Withheld number) (same_number n number)
@@ -140,9 +140,9 @@ marked_push cells number none = record {
       (let l = length_push cells.items (Withheld number) in
       let f : ◌≡◌ {A = ℕ} (cond (withheld_in cells.items number) 0 1) 1 = ap (λ b. cond b 0 1) none in
       omega arith);
-  at_most_one = λ σ. record {
+  single = λ σ. record {
     diversions = λ n s k.
-        (let more = count_push (is_diversion (single n s k)) cells.items (Withheld number) in let few = σ.diversions n s k in omega arith);
+        (let more = count_push (is_diversion (for_one n s k)) cells.items (Withheld number) in let few = σ.diversions n s k in omega arith);
     numbers = λ n. one_more cells.items number n none (σ.numbers n);
   };
   room = refl;

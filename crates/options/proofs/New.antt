@@ -15,7 +15,7 @@ use Rattle.options.specs.declared.record.Services.TheVariants.{One, All}
 use Rattle.options.specs.declared.cells.Cell.{Cell}
 use Rattle.options.specs.declared.cells.Cell.TheVariants.{Diversion}
 use Rattle.options.specs.Records.{services_in, service_count, same_kind, same_service}
-use Rattle.options.specs.Cells.{covers, is_diversion, single, is_withheld, record_in, Diverted, new_cells}
+use Rattle.options.specs.Cells.{covers, is_diversion, for_one, is_withheld, record_in, Diverted, new_cells}
 use Rattle.options.proofs.Lists.{earliest_without, count_without, length_without, count_none}
 use Rattle.options.proofs.Meaning.{fits_covers, same_sym, or_none, withheld_without}
 
@@ -29,7 +29,7 @@ same_kind_sym a b = grind arith
 new_held :
     (number : Number) (services : Services) (kind : Kind) (r : Record Number) (n : Number) (s : Service) (k : Kind) →
     let meant : Diversions = record { number = number; services = services; kind = kind } in
-    record_in (earliest (is_diversion (single n s k)) (new_cells meant r)) ≡ cond (covers meant n s k) (Some r) None
+    record_in (earliest (is_diversion (for_one n s k)) (new_cells meant r)) ≡ cond (covers meant n s k) (Some r) None
 new_held number (One t) kind r n s k =
     let a = same_sym n number in
     let b = same_service_sym s t in
@@ -44,7 +44,7 @@ new_held number All kind r n s k =
 new_counted :
     (number : Number) (services : Services) (kind : Kind) (r : Record Number) (n : Number) (s : Service) (k : Kind) →
     let meant : Diversions = record { number = number; services = services; kind = kind } in
-    count_by (is_diversion (single n s k)) (new_cells meant r) ≡ cond (covers meant n s k) 1 0
+    count_by (is_diversion (for_one n s k)) (new_cells meant r) ≡ cond (covers meant n s k) 1 0
 new_counted number (One t) kind r n s k =
     let a = same_sym n number in
     let b = same_service_sym s t in
@@ -97,10 +97,10 @@ diverted_new cells meant r =
     let apart = new_withheld meant (services_in meant.services) r in
     record {
       held = λ n s k.
-          ap record_in (find-append (is_diversion (single n s k)) kept new)
-          ∙ ap (λ e. record_in (option_or e (earliest (is_diversion (single n s k)) new)))
-          (earliest_without p (is_diversion (single n s k)) (covers meant n s k) (fits_covers meant n s k) cells.items)
-          ∙ or_record (covers meant n s k) (earliest (is_diversion (single n s k)) cells.items) (earliest (is_diversion (single n s k)) new) r
+          ap record_in (find-append (is_diversion (for_one n s k)) kept new)
+          ∙ ap (λ e. record_in (option_or e (earliest (is_diversion (for_one n s k)) new)))
+          (earliest_without p (is_diversion (for_one n s k)) (covers meant n s k) (fits_covers meant n s k) cells.items)
+          ∙ or_record (covers meant n s k) (earliest (is_diversion (for_one n s k)) cells.items) (earliest (is_diversion (for_one n s k)) new) r
           (new_held meant.number meant.services meant.kind r n s k);
       withheld = λ n.
           ap is_some (find-append (is_withheld n) kept new)
@@ -112,9 +112,9 @@ diverted_new cells meant r =
           let l = new_length meant r in
           let h = length_without p cells.items in
           omega arith);
-      at_most_one = λ σ. record {
+      single = λ σ. record {
         diversions = λ n s k.
-            one_fits cells.items new (is_diversion (single n s k)) p (covers meant n s k) (fits_covers meant n s k)
+            one_fits cells.items new (is_diversion (for_one n s k)) p (covers meant n s k) (fits_covers meant n s k)
             (new_counted meant.number meant.services meant.kind r n s k) (σ.diversions n s k);
         numbers = λ n.
             (let sum : count_by (is_withheld n) (kept ++ new) ≡ count_by (is_withheld n) kept + count_by (is_withheld n) new =

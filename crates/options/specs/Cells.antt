@@ -24,14 +24,15 @@ is_diversion meant (Diversion n s k r) = covers meant n s k
 is_diversion meant (Withheld n) = false
 
 -- the diversion of a number for one service and a kind
-abbrev pub single : Number → Service → Kind → Diversions
-single n s k = record { number = n; services = One s; kind = k }
+abbrev pub for_one : Number → Service → Kind → Diversions
+for_one n s k = record { number = n; services = One s; kind = k }
 
 -- whether a cell holds that a number is withheld
 abbrev pub is_withheld : Number → Cell → Bool
 is_withheld number (Diversion n s k r) = false
 is_withheld number (Withheld n) = same_number number n
 
+-- the record that a cell holds, where there is such a cell
 abbrev pub record_in : Option Cell → Option (Record Number)
 record_in None = None
 record_in (Some (Diversion n s k r)) = Some r
@@ -39,7 +40,7 @@ record_in (Some (Withheld n)) = None
 
 -- the record that the cells hold for a number, a service and a kind
 abbrev pub held_in : List Cell → Number → Service → Kind → Option (Record Number)
-held_in cells n s k = record_in (earliest (is_diversion (single n s k)) cells)
+held_in cells n s k = record_in (earliest (is_diversion (for_one n s k)) cells)
 
 -- whether the cells hold that a number is withheld
 abbrev pub withheld_in : List Cell → Number → Bool
@@ -47,7 +48,7 @@ withheld_in cells n = is_some (earliest (is_withheld n) cells)
 
 -- at most one cell fits each question
 pub record Single (cells : List Cell) : Type 0 where
-  pub diversions : (n : Number) (s : Service) (k : Kind) → count_by (is_diversion (single n s k)) cells ≤ 1
+  pub diversions : (n : Number) (s : Service) (k : Kind) → count_by (is_diversion (for_one n s k)) cells ≤ 1
   pub numbers : (n : Number) → count_by (is_withheld n) cells ≤ 1
 
 -- what is held for the number, the services and the kind is new, in so many new cells, and everything else is as it was
@@ -59,7 +60,7 @@ pub record Diverted
       held_in after.items n s k ≡ cond (covers meant n s k) new (held_in before.items n s k)
   pub withheld : (n : Number) → withheld_in after.items n ≡ withheld_in before.items n
   pub count : length after.items + count_by (is_diversion meant) before.items ≡ length before.items + filled
-  pub at_most_one : Single before.items → Single after.items
+  pub single : Single before.items → Single after.items
   pub room : after.places ≡ before.places
 
 -- whether the number is withheld is new, with so many cells emptied and filled, and everything else is as it was
@@ -67,7 +68,7 @@ pub record Marked (before after : Waiting Cell) (number : Number) (mark : Bool) 
   pub held : (n : Number) (s : Service) (k : Kind) → held_in after.items n s k ≡ held_in before.items n s k
   pub withheld : (n : Number) → withheld_in after.items n ≡ cond (same_number number n) mark (withheld_in before.items n)
   pub count : length after.items + emptied ≡ length before.items + filled
-  pub at_most_one : Single before.items → Single after.items
+  pub single : Single before.items → Single after.items
   pub room : after.places ≡ before.places
 
 -- deactivating is refused exactly where none of its cells is held

@@ -21,9 +21,11 @@ kind_place kind.Busy = 1
 kind_place kind.NoReply = 2
 kind_place kind.Deflection = 3
 
+-- whether two kinds are one
 abbrev pub same_kind : Kind → Kind → Bool
 same_kind a b = kind_place a == kind_place b
 
+-- whether two services are one
 abbrev pub same_service : Service → Service → Bool
 same_service a b = service_code a == service_code b
 
@@ -52,6 +54,7 @@ option_of n =
 abbrev pub release_of : ℕ → Option Bool
 release_of n = cond (n == 0) (Some false) (cond (n == 1) (Some true) None)
 
+-- the record of its parts, where the option and the mark are there
 abbrev pub record_with : {N : Type 0} → N → Option NotificationOption → Option Bool → Option (Record N)
 record_with target None mark = None
 record_with target (Some o) None = None

@@ -60,6 +60,7 @@ impl<'a> Model for CellStore<'a> {
 impl<'a> CellStore<'a> {
     // A store that holds nothing: it has room for as many options as cells are handed, at most 256.
     // The clause gives the number and not the constant, so that a change of the constant breaks it.
+    // What a carrier's `new` does too stands in the list's: a store and a carrier show different values of it.
     pub fn new(cells: &'a mut [Cell]) -> CellStore<'a>
         ensures empty { result.items ≡ [] }
         ensures room { result.places ≡ min 256 (length cells.old) }

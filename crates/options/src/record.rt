@@ -34,6 +34,7 @@ pub struct Record<N = Number> {
 }
 
 // The parts that a record is asked for with: an option from 1 to 3 and a release mark 0 or 1 are those of a record.
+// Option and mark are numbers here, since only a number can be out of its range.
 #[derive(Clone, Copy)]
 pub struct RawRecord {
     pub target: Number,
@@ -50,12 +51,12 @@ pub enum Services {
 
 static ALL: [Service; 3] = [Service::Speech, Service::Digital64, Service::Audio];
 
-impl Kind {
-    // The kind's place among the four.
-    pub fn place(self) -> u8
-        ensures { result ≡ kind_place self }
-    {
-        self as u8
+// The kind's place among the four.
+impl From<Kind> for u8 {
+    ghost from_gives = { λ kind place. place ≡ kind_place kind };
+
+    fn from(kind: Kind) -> u8 {
+        kind as u8
     }
 }
 

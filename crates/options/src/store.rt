@@ -16,6 +16,7 @@ pub trait Store {
 
     ghost withheld: { Self → Number → Bool };
 
+    // The three stand apart, since a store means a function of the three.
     fn record(&self, number: &Number, service: Service, kind: Kind) -> Option<Record>
         ensures { result ≡ held self.now number.now service kind };
 

@@ -8,6 +8,7 @@ ghost use Rattle.waiting.specs.Items.{holding, is_full, added, first_fit, earlie
 use std::marker::Model;
 
 // The list is the front of the memory. What stands in the places behind it is open.
+// The owner lends the memory, so the elements are counted in a slice and stand in no Vec.
 #[derive(Drop)]
 pub struct WaitingList<'a, T: Copy> {
     slots: &'a mut [T],

@@ -23,6 +23,7 @@ impl Slot for Frame {
         self.octets[2] == ends.from.value() && self.octets[3] == ends.to.value()
     }
 
+    // The circuit stands in the message, which only its reader takes apart.
     fn is_of_call(&self, call: u8) -> bool {
         Frame::envelope(self).circuit.call() == call
     }
