@@ -1,5 +1,4 @@
-pub mod Pieces
 pub mod Spelling
 pub mod Reading
-pub mod Tellings
+pub mod CarryingOut
 pub mod Asking

@@ -5,14 +5,14 @@ ghost use Rattle.std.specs.Prelude.{◌≡◌, map, Some, string_bytes};
 use std::fmt;
 
 // Where a script is to come from, if one is to be carried out.
-#[derive(Clone, Copy)]
+#[derive(Clone, Copy, Debug, PartialEq, Eq)]
 pub enum Source<'a> {
     Help,
     Input,
     File(&'a str),
 }
 
-#[derive(Clone, Copy)]
+#[derive(Clone, Copy, Debug, PartialEq, Eq)]
 pub enum ArgumentError<'a> {
     UnknownOption(&'a str),
     TooMany,

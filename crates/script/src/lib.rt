@@ -15,5 +15,5 @@ pub use arguments::{ArgumentError, Source, source_of};
 pub use line::{Line, LineError, parse};
 pub use program::{USAGE, run};
 pub use report::LineCounts;
-pub use transcript::{Reply, Transcript, rehearse, reply_to};
+pub use transcript::{Transcript, rehearse, reply_to};
 pub use words::octets;

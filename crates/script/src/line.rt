@@ -1,5 +1,5 @@
 // One line of a script.
-ghost use Rattle.script.specs.Lines.{Gives, asked, asking, command as command_of, meaning, number, octets as octets_of, read};
+ghost use Rattle.script.specs.Lines.{Gives, asked, command as command_of, meaning};
 ghost use Rattle.script.specs.Texts.{error_text};
 ghost use Rattle.std.specs.Prelude.{◌≡◌, map, Some};
 ghost use Rattle.script.specs.declared.line.LineError.TheVariants.{Memory as memory};
@@ -9,7 +9,7 @@ use std::alloc::{AllocError, AllocFailed, Global};
 use std::fmt;
 
 // What a line asks for.
-#[derive(Debug, Drop)]
+#[derive(Debug, PartialEq, Eq, Drop)]
 pub enum Line {
     // a blank line or a remark
     Nothing,
@@ -20,7 +20,7 @@ pub enum Line {
 }
 
 // Why a line is none of the script's.
-#[derive(Clone, Copy, Debug)]
+#[derive(Clone, Copy, Debug, PartialEq, Eq)]
 pub enum LineError<'a> {
     UnknownWord(&'a str),
     OctetsMissing,
@@ -60,37 +60,22 @@ impl<T: Drop> From<AllocFailed<T>> for LineError<'_> {
     }
 }
 
-// A line that reads a number's content.
-fn number_line<'a>(
-    heap: Global,
-    more: &[&'a str],
-    may_restrict: bool,
-) -> Result<Line, LineError<'a>>
-    ensures { Gives asked result (asking (number may_restrict) (octets_of (map (λ w. w.now) more.now))) }
-{
-    let octets = octets(heap, more)?;
-    Ok(Line::Number {
-        octets,
-        may_restrict,
-    })
-}
-
-// A line that reads a message.
-fn read_line<'a>(heap: Global, more: &[&'a str]) -> Result<Line, LineError<'a>>
-    ensures { Gives asked result (asking read (octets_of (map (λ w. w.now) more.now))) }
-{
-    let octets = octets(heap, more)?;
-    Ok(Line::Read { octets })
-}
-
 // What a line with words asks for.
 fn command<'a>(heap: Global, first: &'a str, more: &[&'a str]) -> Result<Line, LineError<'a>>
     ensures { Gives asked result (command_of first.now (map (λ w. w.now) more.now)) }
 {
     match first {
-        "number" => number_line(heap, more, false),
-        "number14" => number_line(heap, more, true),
-        "read" => read_line(heap, more),
+        "number" => Ok(Line::Number {
+            octets: octets(heap, more)?,
+            may_restrict: false,
+        }),
+        "number14" => Ok(Line::Number {
+            octets: octets(heap, more)?,
+            may_restrict: true,
+        }),
+        "read" => Ok(Line::Read {
+            octets: octets(heap, more)?,
+        }),
         _ => Err(LineError::UnknownWord(first)),
     }
 }

@@ -1,5 +1,5 @@
 // What the programs over scripts share.
-ghost use Rattle.script.specs.Transcripts.{told_of};
+ghost use Rattle.script.specs.Transcripts.{final_state};
 ghost use Rattle.std.specs.Prelude.{◌≡◌, IsUtf8, OnOk};
 
 use crate::transcript::{Transcript, rehearse};
@@ -19,7 +19,7 @@ OCTETS are pairs of hexadecimal digits, in one word or several.
 
 // Carries out a script and writes what it answers. It fails where a line was none of the script's.
 pub fn run(rt: &HostRuntime, script: &[u8]) -> anyhow::Result<()>
-    ensures { OnOk result (IsUtf8 script.now → (told_of script.now).lines_counted.errors ≡ 0) }
+    ensures { OnOk result (IsUtf8 script.now → (final_state script.now).lines_counted.errors ≡ 0) }
 {
     let heap = rt.alloc();
     let script = String::from_utf8_lossy(heap, script)?;
