@@ -42,18 +42,11 @@ impl fmt::Display for Text<NumberRead> {
 
     fn fmt<W: fmt::Write>(&self, f: &mut fmt::Formatter<W>) -> fmt::Result {
         match self.0 {
-            Ok(read) => {
-                let (party, used) = read;
-                let digits = Text(party.number);
-                if party.restricted {
-                    return write!(f, "number {digits} used {used} restricted");
-                }
-                write!(f, "number {digits} used {used}")
+            Ok((party, used)) => {
+                let mark = if party.restricted { " restricted" } else { "" };
+                write!(f, "number {} used {used}{mark}", Text(party.number))
             }
-            Err(fault) => {
-                let number = fault.number();
-                write!(f, "fault {number}")
-            }
+            Err(fault) => write!(f, "fault {}", fault.number()),
         }
     }
 }
@@ -65,8 +58,7 @@ impl fmt::Display for Text<Option<NumberFault>> {
         let Some(fault) = self.0 else {
             return Ok(());
         };
-        let number = fault.number();
-        write!(f, " number {number}")
+        write!(f, " number {}", fault.number())
     }
 }
 
@@ -75,17 +67,14 @@ impl fmt::Display for Text<MessageRead> {
 
     fn fmt<W: fmt::Write>(&self, f: &mut fmt::Formatter<W>) -> fmt::Result {
         match self.0 {
-            Ok(read) => {
-                let (circuit, message) = read;
-                let message = OnCircuit { circuit, message };
-                write!(f, "{message}")
-            }
-            Err(fault) => {
-                let number = fault.number();
-                let place = fault.place();
-                let within = Text(fault.within());
-                write!(f, "fault {number} at {place}{within}")
-            }
+            Ok((circuit, message)) => OnCircuit { circuit, message }.fmt(f),
+            Err(fault) => write!(
+                f,
+                "fault {} at {}{}",
+                fault.number(),
+                fault.place(),
+                Text(fault.within())
+            ),
         }
     }
 }
@@ -95,14 +84,8 @@ impl fmt::Display for Answer {
 
     fn fmt<W: fmt::Write>(&self, f: &mut fmt::Formatter<W>) -> fmt::Result {
         match self {
-            Answer::Number(read) => {
-                let text = Text(*read);
-                write!(f, "{text}")
-            }
-            Answer::Message(read) => {
-                let text = Text(*read);
-                write!(f, "{text}")
-            }
+            Answer::Number(read) => Text(*read).fmt(f),
+            Answer::Message(read) => Text(*read).fmt(f),
         }
     }
 }
