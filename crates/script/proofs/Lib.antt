@@ -1,4 +1,2 @@
 pub mod Spelling
-pub mod Reading
 pub mod CarryingOut
-pub mod Asking

@@ -1,5 +1,6 @@
 -- What lines answer, and what is written of it.
-use Rattle.std.specs.Prelude.{ℕ, cond, List, [], ◌∷◌, ◌++◌, Some, None, Ok, Err, codes, decimal, Option, Result}
+use Rattle.std.specs.Prelude.{ℕ, cond, List, [], ◌++◌, Some, None, Ok, Err, codes, decimal, Option, Result}
+use Rattle.std.specs.List.{flat_map}
 use Rattle.numbers.specs.declared.number.Number.{Number}
 use Rattle.numbers.specs.declared.number.NumberFault.{NumberFault}
 use Rattle.numbers.specs.declared.number.Party.{Party}
@@ -29,8 +30,7 @@ use Rattle.script.specs.declared.answer.Answer.TheVariants as answered
 use Rattle.script.specs.Lines.{Asked, nothing, number, read}
 
 abbrev pub digits_text : List ℕ → List ℕ
-digits_text [] = []
-digits_text (d ∷ ds) = decimal d ++ digits_text ds
+digits_text ds = flat_map decimal ds
 
 abbrev pub number_text : Number → List ℕ
 number_text n = digits_text (digits_of n)

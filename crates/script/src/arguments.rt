@@ -22,9 +22,9 @@ impl fmt::Display for ArgumentError<'_> {
     ghost output = { λ e. Some (argument_text e) };
 
     fn fmt<W: fmt::Write>(&self, f: &mut fmt::Formatter<W>) -> fmt::Result {
-        match self {
+        match *self {
             ArgumentError::UnknownOption(word) => write!(f, "unknown option {word}"),
-            ArgumentError::TooMany => write!(f, "more than one argument"),
+            ArgumentError::TooMany => f.write_str("more than one argument"),
         }
     }
 }

@@ -32,14 +32,14 @@ impl fmt::Display for LineError<'_> {
     ghost output = { λ e. Some (error_text e) };
 
     fn fmt<W: fmt::Write>(&self, f: &mut fmt::Formatter<W>) -> fmt::Result {
-        match self {
+        match *self {
             LineError::UnknownWord(word) => write!(f, "unknown word {word}"),
-            LineError::OctetsMissing => write!(f, "octets missing"),
+            LineError::OctetsMissing => f.write_str("octets missing"),
             LineError::NotOctets(word) => write!(
                 f,
                 "octets are pairs of hexadecimal digits: {word}"
             ),
-            LineError::Memory => write!(f, "memory is wanting"),
+            LineError::Memory => f.write_str("memory is wanting"),
         }
     }
 }

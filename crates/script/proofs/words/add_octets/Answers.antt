@@ -1,17 +1,10 @@
-use Rattle.std.proofs.Common.{◌≡◌, is_ok, vec_items, Some, None, sym, ap, ◌∙◌, subst, arith}
+use Rattle.std.proofs.Common.{◌≡◌, is_ok, vec_items, Some, None, sym, ap, subst, arith}
 use Rattle.std.proofs.ResultArms.{chosen}
 use Rattle.std.proofs.lemmas.Result.{err_from_is_err_and}
-use Rattle.std.specs.Slice.Iter.{chunks_rest, chunks_size}
 use Rattle.script.specs.declared.line.LineError.TheVariants.{NotOctets}
 use Rattle.script.specs.Lines.{octet_of}
-use Rattle.script.proofs.Spelling.{Sofar, starts, done, next_octet, no_octet}
+use Rattle.script.proofs.Spelling.{Sofar, next_octet, no_octet}
 use Rattle.script.proofs.words.add_octets.Goals as goal
-
-pub loop-pair-init : goal.loop-pair-init
-loop-pair-init c =
-    let same = c.into_iter-pair-iterator.ensures.into_iter_gives in
-    let told = c.chunks-pair-items.ensures in
-    starts _ _ _ (ap chunks_size same ∙ told.size) (ap chunks_rest same ∙ told.rest ∙ c.as_bytes.ensures.value)
 
 pub loop-pair-preserved : goal.loop-pair-preserved
 loop-pair-preserved c =
@@ -27,6 +20,3 @@ returns-in_err-ok_or c =
     let error : c.in_err-ok_or.field-0.0 ≡ NotOctets c.args.word = grind arith in
     let p = err_from_is_err_and c.from_residual.result c.from_residual.ensures.1 in
     rw (p.1, p.2, error) stopped
-
-pub returns : goal.returns
-returns c = done c.loop-pair.invariant c.next.new.self c.in-None.ensures.steps
