@@ -1,5 +1,5 @@
 -- What happens to one call: when a message reaches an end of one of its legs, when a line reports, when the caller hangs up.
-use Rattle.std.specs.Prelude.{ℕ, zero, suc, Bool, true, false, cond, ◌&&◌, ◌||◌, List, [], ◌∷◌, ◌++◌, Some, None, Option, ◌==◌, nat_lt, slice_set}
+use Rattle.std.specs.Prelude.{is_some, ℕ, zero, suc, Bool, true, false, cond, ◌&&◌, ◌||◌, List, [], ◌∷◌, ◌++◌, Some, None, Option, ◌==◌, nat_lt, slice_set}
 use Rattle.std.specs.List.{slice_get}
 use Rattle.isup.specs.declared.message.Cause.{Cause}
 use Rattle.isup.specs.declared.message.Exchange.{Exchange}
@@ -142,11 +142,6 @@ abbrev pub kept_after : {N : Type 0} → Option N → Option (Notice N) → Opti
 kept_after o None = o
 kept_after o (Some n) = Some n.number
 
--- whether there is one
-abbrev pub is_given : {A : Type 0} → Option A → Bool
-is_given None = false
-is_given (Some a) = true
-
 -- the caller may be told of a diversion where the strictest option is 2 or 3
 abbrev pub tells_diversion : Option NotificationOption → Bool
 tells_diversion None = false
@@ -174,7 +169,7 @@ informs_caller c d t =
       note = Some (record {
         call = c;
         kind = note_kind_of t;
-        diverted = is_given (notice_of t) && tells_diversion strictest;
+        diverted = is_some (notice_of t) && tells_diversion strictest;
         shown = cond (shows_number strictest (restriction_of t)) kept None;
       });
     }
@@ -218,7 +213,7 @@ busy s m c k d l = diverts_or (ends_leg c k d l (release_with 17)) c k d l false
 -- 3: address complete with the line free; a diversion may occur if N or D is active
 abbrev pub alerts : {N : Type 0} → Meaning N → ℕ → ℕ → Call N → Leg N → Effect N
 alerts m c k d l =
-    let may : Bool = is_given (m.held l.called d.service kind.NoReply) || is_given (m.held l.called d.service kind.Deflection) in
+    let may : Bool = is_some (m.held l.called d.service kind.NoReply) || is_some (m.held l.called d.service kind.Deflection) in
     sends_back c k d l Alerting (message.AddressComplete Free (record { may_divert = may; notice = None; restriction = restriction_at m k l.called }))
 
 -- 4: diverted by N, else nothing

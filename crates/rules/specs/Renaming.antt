@@ -1,14 +1,13 @@
 -- The law of renaming: two runs that are alike but for the names of numbers give answers that are alike but for the names.
-use Rattle.std.specs.Prelude.{◌≡◌, ℕ, List, [], ◌∷◌, map, Some, None, Option}
+use Rattle.std.specs.Prelude.{Ok, Err, ◌≡◌, ℕ, List, [], ◌∷◌, map, Some, None, Option}
 use Rattle.isup.specs.declared.message.Service.{Service}
 use Rattle.options.specs.declared.record.Kind.{Kind}
 use Rattle.options.specs.declared.record.Record.{Record}
 use Rattle.rules.specs.declared.note.Note.{Note}
-use Rattle.rules.specs.declared.request.Answer.{Answer}
-use Rattle.rules.specs.declared.request.Answer.TheVariants as answer
+use Rattle.rules.specs.declared.request.Granted.TheVariants as granted
 use Rattle.rules.specs.declared.request.Request.{Request}
 use Rattle.rules.specs.declared.request.Request.TheVariants.{Open, Step, Report, Deflect, HangUp, Clear}
-use Rattle.rules.specs.Parts.{Setup, Meaning}
+use Rattle.rules.specs.Parts.{Answer, Setup, Meaning}
 use Rattle.rules.specs.Runs.{Turn, Entry, runs, just_set_up}
 
 -- a one-to-one renaming of numbers
@@ -41,10 +40,10 @@ renamed_note f n = record { call = n.call; kind = n.kind; diverted = n.diverted;
 
 -- the same answer, the number shown renamed
 abbrev pub renamed_answer : {N M : Type 0} → (N → M) → Answer N → Answer M
-renamed_answer f (answer.Refused r) = answer.Refused r
-renamed_answer f (answer.Opened c) = answer.Opened c
-renamed_answer f (answer.Stepped n) = answer.Stepped (renamed_if (renamed_note f) n)
-renamed_answer f answer.Done = answer.Done
+renamed_answer f (Err r) = Err r
+renamed_answer f (Ok (granted.Opened c)) = Ok (granted.Opened c)
+renamed_answer f (Ok (granted.Stepped n)) = Ok (granted.Stepped (renamed_if (renamed_note f) n))
+renamed_answer f (Ok granted.Done) = Ok granted.Done
 
 -- two stores' records and withheld marks match under a renaming
 pub record Matches {N M : Type 0} (f : N → M) (m : Meaning N) (p : Meaning M) : Type 0 where
