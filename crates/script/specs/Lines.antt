@@ -2,8 +2,8 @@
 use Rattle.std.specs.Prelude.{◌≡◌, ℕ, ◌+◌, ◌-◌, ◌*◌, Bool, true, false, cond, ◌&&◌, List, [], ◌∷◌, ◌++◌, length, Some, None, Ok, Err, vec_items, codes, Option, Result, ◌==◌, nat_le, slice_index}
 use Rattle.std.specs.Str.{bytes_eq as same_text}
 use Rattle.std.specs.Option.{ok_or}
-use Rattle.script.specs.declared.line.Line.{Line}
-use Rattle.script.specs.declared.line.Line.TheVariants.{Nothing, Number, Read}
+use Rattle.script.specs.declared.line.Command.{Command}
+use Rattle.script.specs.declared.line.Command.TheVariants.{Number, Read}
 use Rattle.script.specs.declared.line.LineError.{LineError}
 use Rattle.script.specs.declared.line.LineError.TheVariants.{UnknownWord, OctetsMissing, NotOctets, Memory}
 use Rattle.script.specs.Words.{words}
@@ -100,10 +100,10 @@ meaning line = cond (slice_index line 0 == 35) (Ok nothing) (line_of (words line
 
 -- ---- what the code answers
 
-abbrev pub asked : Line → Asked
-asked Nothing = nothing
-asked (Number octets restrict) = number restrict (vec_items octets)
-asked (Read octets) = read (vec_items octets)
+abbrev pub asked : Option Command → Asked
+asked None = nothing
+asked (Some (Number octets restrict)) = number restrict (vec_items octets)
+asked (Some (Read octets)) = read (vec_items octets)
 
 -- e is the mistake in what is meant, or memory was wanting
 abbrev pub Fails : {Y : Type 0} → LineError → Result Y Mistake → Type 0

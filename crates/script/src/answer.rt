@@ -4,7 +4,7 @@ ghost use Rattle.script.specs.Lines.{asked};
 ghost use Rattle.std.specs.Prelude.{◌≡◌, Some};
 
 use crate::display::{OnCircuit, Text};
-use crate::line::Line;
+use crate::line::Command;
 use decode::fault::MessageFault;
 use decode::reading::read;
 use isup::message::{Circuit, Message};
@@ -23,17 +23,16 @@ pub enum Answer {
     Message(MessageRead),
 }
 
-// What a line answers, if it asks for anything.
-pub fn answer_to(line: &Line) -> Option<Answer>
-    ensures { result ≡ answer_of (asked line.now) }
+// What a command answers.
+pub fn answer_to(command: &Command) -> Answer
+    ensures { Some result ≡ answer_of (asked (Some command.now)) }
 {
-    match line {
-        Line::Nothing => None,
-        Line::Number {
+    match command {
+        Command::Number {
             octets,
             may_restrict,
-        } => Some(Answer::Number(read_number(octets.as_slice(), *may_restrict))),
-        Line::Read { octets } => Some(Answer::Message(read(octets.as_slice()))),
+        } => Answer::Number(read_number(octets.as_slice(), *may_restrict)),
+        Command::Read { octets } => Answer::Message(read(octets.as_slice())),
     }
 }
 

@@ -12,7 +12,7 @@ mod words;
 
 pub use answer::{Answer, answer_to};
 pub use arguments::{ArgumentError, Source, source_of};
-pub use line::{Line, LineError, parse};
+pub use line::{Command, LineError, parse};
 pub use program::{USAGE, run, run_input};
 pub use report::LineCounts;
 pub use transcript::{Transcript, rehearse, reply_to};

@@ -1,5 +1,5 @@
 // One line of a script.
-ghost use Rattle.script.specs.Lines.{Gives, asked, command as command_of, meaning};
+ghost use Rattle.script.specs.Lines.{Gives, asked, command, meaning};
 ghost use Rattle.script.specs.Texts.{error_text};
 ghost use Rattle.std.specs.Prelude.{◌≡◌, map, Some};
 ghost use Rattle.script.specs.declared.line.LineError.TheVariants.{Memory as memory};
@@ -10,9 +10,7 @@ use std::fmt;
 
 // What a line asks for.
 #[derive(Debug, PartialEq, Eq, Drop)]
-pub enum Line {
-    // a blank line or a remark
-    Nothing,
+pub enum Command {
     // read a number's content, where the mark of a restricted presentation may be allowed
     Number { octets: Vec<u8>, may_restrict: bool },
     // read a message
@@ -61,35 +59,39 @@ impl<T: Drop> From<AllocFailed<T>> for LineError<'_> {
 }
 
 // What a line with words asks for.
-fn command<'a>(heap: Global, first: &'a str, more: &[&'a str]) -> Result<Line, LineError<'a>>
-    ensures { Gives asked result (command_of first.now (map (λ w. w.now) more.now)) }
+fn command_of<'a>(
+    heap: Global,
+    first: &'a str,
+    more: &[&'a str],
+) -> Result<Option<Command>, LineError<'a>>
+    ensures { Gives asked result (command first.now (map (λ w. w.now) more.now)) }
 {
     match first {
-        "number" => Ok(Line::Number {
+        "number" => Ok(Some(Command::Number {
             octets: octets(heap, more)?,
             may_restrict: false,
-        }),
-        "number14" => Ok(Line::Number {
+        })),
+        "number14" => Ok(Some(Command::Number {
             octets: octets(heap, more)?,
             may_restrict: true,
-        }),
-        "read" => Ok(Line::Read {
+        })),
+        "read" => Ok(Some(Command::Read {
             octets: octets(heap, more)?,
-        }),
+        })),
         _ => Err(LineError::UnknownWord(first)),
     }
 }
 
-// What a line asks for. A line that begins with '#' is a remark.
-pub fn parse<'a>(heap: Global, line: &'a str) -> Result<Line, LineError<'a>>
+// What a line asks for, if it is neither blank nor a remark, which begins with '#'.
+pub fn parse<'a>(heap: Global, line: &'a str) -> Result<Option<Command>, LineError<'a>>
     ensures { Gives asked result (meaning line.now) }
 {
     if line.starts_with('#') {
-        return Ok(Line::Nothing);
+        return Ok(None);
     }
     let words = words(heap, line)?;
     match words.as_slice() {
-        [] => Ok(Line::Nothing),
-        [first, more @ ..] => command(heap, first, more),
+        [] => Ok(None),
+        [first, more @ ..] => command_of(heap, first, more),
     }
 }

@@ -29,11 +29,11 @@ pub struct Report {
     pub waiting: u64,
 }
 
-impl Report {
-    // The report of a script without calls.
-    pub(crate) fn of_lines(lines: LineCounts) -> Report
-        ensures { result ≡ report_of lines }
-    {
+// The report of a script without calls.
+impl From<LineCounts> for Report {
+    ghost from_gives = { λ lines report. report ≡ report_of lines };
+
+    fn from(lines: LineCounts) -> Report {
         Report {
             lines,
             ..Report::default()

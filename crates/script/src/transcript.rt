@@ -16,12 +16,12 @@ use std::fmt::Write;
 pub fn reply_to<'a>(heap: Global, line: &'a str) -> Result<Option<Answer>, LineError<'a>>
     ensures { Gives (λ answer. answer) result (reply (meaning line.now)) }
 {
-    let line = parse(heap, line)?;
-    Ok(answer_to(&line))
+    let command = parse(heap, line)?;
+    Ok(command.as_ref().map(answer_to))
 }
 
 // What was written so far, and the counts of the lines.
-#[derive(Debug, Drop)]
+#[derive(Debug, PartialEq, Eq, Drop)]
 pub struct Transcript {
     pub text: String,
     pub lines: LineCounts,
@@ -88,7 +88,7 @@ pub fn rehearse(heap: Global, script: &str) -> Result<Transcript, AllocError>
     ensures lines { IfOk result (λ t. t.lines ≡ (final_state script.now).lines_counted) }
 {
     let mut transcript = carry_out(heap, script)?;
-    let report = Report::of_lines(transcript.lines);
+    let report = Report::from(transcript.lines);
     transcript.add_report(report)?;
     Ok(transcript)
 }
