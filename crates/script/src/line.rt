@@ -59,25 +59,21 @@ impl<T: Drop> From<AllocFailed<T>> for LineError<'_> {
 }
 
 // What a line with words asks for.
-fn command_of<'a>(
-    heap: Global,
-    first: &'a str,
-    more: &[&'a str],
-) -> Result<Option<Command>, LineError<'a>>
-    ensures { Gives asked result (command first.now (map (λ w. w.now) more.now)) }
+fn command_of<'a>(heap: Global, first: &'a str, more: &[&'a str]) -> Result<Command, LineError<'a>>
+    ensures { Gives (λ c. asked (Some c)) result (command first.now (map (λ w. w.now) more.now)) }
 {
     match first {
-        "number" => Ok(Some(Command::Number {
+        "number" => Ok(Command::Number {
             octets: octets(heap, more)?,
             may_restrict: false,
-        })),
-        "number14" => Ok(Some(Command::Number {
+        }),
+        "number14" => Ok(Command::Number {
             octets: octets(heap, more)?,
             may_restrict: true,
-        })),
-        "read" => Ok(Some(Command::Read {
+        }),
+        "read" => Ok(Command::Read {
             octets: octets(heap, more)?,
-        })),
+        }),
         _ => Err(LineError::UnknownWord(first)),
     }
 }
@@ -92,6 +88,6 @@ pub fn parse<'a>(heap: Global, line: &'a str) -> Result<Option<Command>, LineErr
     let words = words(heap, line)?;
     match words.as_slice() {
         [] => Ok(None),
-        [first, more @ ..] => command_of(heap, first, more),
+        [first, more @ ..] => command_of(heap, first, more).map(Some),
     }
 }
