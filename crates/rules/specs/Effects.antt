@@ -185,12 +185,12 @@ indicates c zero d t = cond d.up (informs_caller c d t) (unchanged d)
 indicates c (suc j) d t = relays c j d t (slice_get d.legs j)
 
 -- What a message does at the end that it comes to. An address counts only at a leg that is sent, and nothing at a far end that has ended
-abbrev pub receives : {N : Type 0} → Setup N → Meaning N → ℕ → ℕ → Call N → Leg N → Arrival N → Effect N
-receives s m c k d l arrival.Ignored = unchanged d
-receives s m c k d l (arrival.Address r) = cond (is_sent l.state) (offers s c k d (offered_with l r) (m.held l.called d.service kind.Unconditional)) (unchanged d)
-receives s m c k d l (arrival.ForwardRelease cause) = cond (is_ended l.state) (unchanged d) (releases_forward c k d l cause)
-receives s m c k d l (arrival.Indicated t) = indicates c k d t
-receives s m c k d l (arrival.BackwardRelease cause) = releases_back c k d cause
+abbrev pub receives : {N : Type 0} → Setup N → Meaning N → ℕ → ℕ → Call N → Leg N → Option (Arrival N) → Effect N
+receives s m c k d l None = unchanged d
+receives s m c k d l (Some (arrival.Address r)) = cond (is_sent l.state) (offers s c k d (offered_with l r) (m.held l.called d.service kind.Unconditional)) (unchanged d)
+receives s m c k d l (Some (arrival.ForwardRelease cause)) = cond (is_ended l.state) (unchanged d) (releases_forward c k d l cause)
+receives s m c k d l (Some (arrival.Indicated t)) = indicates c k d t
+receives s m c k d l (Some (arrival.BackwardRelease cause)) = releases_back c k d cause
 
 -- a signal fits a leg if it goes between its two exchanges, the way that it says
 abbrev pub fits : {N : Type 0} → Signal N → Leg N → Way → Bool

@@ -10,9 +10,10 @@ pub enum Indication<N = Number> {
     Answer(Option<Restriction>),
 }
 
-// An address counts by its redirection alone: the called number and the service are those of the leg's record.
+// What counts at the end of a leg. An address counts by its redirection alone: the called number and the service are
+// those of the leg's record.
+#[derive(Clone, Copy)]
 pub enum Arrival<N = Number> {
-    Ignored,
     Address(Option<Redirection<N>>),
     ForwardRelease(Cause),
     Indicated(Indication<N>),
