@@ -1,5 +1,6 @@
 -- What holds of each open call, and how a call of the network that touches one call leaves the others.
-use Rattle.std.proofs.Common.{Ok, Err, ◌≡◌, ℕ, ◌<◌, true, false, cond, ◌&&◌, eqb, ltb, List, [], ◌∷◌, ◌++◌, length, set, Some, None, Option, sym, refl, ap, ◌∙◌, subst, subst₂, ⊎_elim}
+use Rattle.std.proofs.Common.{Ok, Err, ◌≡◌, ℕ, ◌<◌, true, false, cond, ◌&&◌, eqb, ltb, List, [], ◌∷◌, ◌++◌, length, set, Some, None, Option, sym, refl, ap, ◌∙◌, subst, subst₂, append-nil, ⊎_elim}
+use Rattle.std.proofs.lemmas.List.{length-set, get_or-set_same, get_or-set_other}
 use Rattle.std.proofs.lemmas.Bool.{eq-eqb, ne_eqb, cond-true, cond-false, cases_eq}
 use Rattle.numbers.specs.declared.refusal.Refusal.{Refusal}
 use Rattle.options.specs.declared.record.Kind.{Kind}
@@ -12,7 +13,7 @@ use Rattle.rules.specs.Ledger.{addition, with_addition, added_by, advance, Addit
 use Rattle.rules.specs.Parts.{Answer, Signal, at, Setup, Meaning, Call, State}
 use Rattle.rules.specs.Requests.{Done, signals_for, Decision, decide}
 use Rattle.rules.specs.Runs.{entry, is_refused, refusal, observed, taken_in, Outcome, settles, runs, Turn, Entry, perform}
-use Rattle.rules.proofs.Basics.{length-set, at_below, AllOf, by_opt, of_call_other, at_set_same, of_call_mine, signals-++, nil-++, by_bool, at_set_other}
+use Rattle.rules.proofs.Basics.{at_below, AllOf, by_opt, of_call_other, of_call_mine, signals-++, by_bool}
 use Rattle.rules.proofs.Decisions.{settled, Decides}
 use Rattle.rules.specs.declared.request.Granted.TheVariants as granted
 
@@ -37,10 +38,10 @@ frame P L M g c v ws h lt ml mw here =
       size = length-set g.calls c v ∙ h.size;
       each = λ j. ⊎_elim
           (λ (e : j ≡ c). subst (λ k. AtCall P k (M k) (at (set g.calls c v) k) (signals_for k ws)) (sym e)
-          (subst (λ o. AtCall P c (M c) o (signals_for c ws)) (sym (at_set_same g.calls c v (subst (λ n. c < n) (sym h.size) lt))) here))
+          (subst (λ o. AtCall P c (M c) o (signals_for c ws)) (sym (get_or-set_same g.calls c v None (subst (λ n. c < n) (sym h.size) lt))) here))
           (λ (n : j ≡ c → ⊥).
           subst (λ o. AtCall P j o (at (set g.calls c v) j) (signals_for j ws)) (sym (ml j n))
-          (subst (λ o. AtCall P j (L j) o (signals_for j ws)) (sym (at_set_other g.calls c j v n))
+          (subst (λ o. AtCall P j (L j) o (signals_for j ws)) (sym (get_or-set_other g.calls c j v None n))
           (subst (λ xs. AtCall P j (L j) (at g.calls j) xs) (sym (mw j n)) (h.each j))))
           (cases_eq j c);
     }
@@ -179,7 +180,7 @@ holds {N} P s L m g q c x y d taken rest f a add eadd h ed ex ey oy mi or re lo 
       subst (λ M. Inv P M (record { calls = set g.calls c (Some f.call); capacity = g.capacity; waiting = rest ++ f.sent })) (sym em)
           (frame P L (with_addition (keeps L m q) add) g c (Some f.call) (rest ++ f.sent) h below
           (λ j n. grows_other (keeps L m q) c j add mi n ∙ oy j n)
-          (λ j n. signals-++ j rest f.sent ∙ ap (λ zs. signals_for j rest ++ zs) (of_call_other c j f.sent n lo.mine) ∙ nil-++ (signals_for j rest) ∙ or j n)
+          (λ j n. signals-++ j rest f.sent ∙ ap (λ zs. signals_for j rest ++ zs) (of_call_other c j f.sent n lo.mine) ∙ append-nil (signals_for j rest) ∙ or j n)
           (subst₂ (λ o zs. AtCall P c o (Some f.call) zs) (sym mc) (sym ws) lo.keeps)),
     )
 
