@@ -9,7 +9,8 @@ use isup::message::{
 use numbers::number::{Number, Party};
 use std::fmt;
 
-// A value of another crate that is to be written.
+// A value of another crate that is to be written. A trait's impl stands in the crate of the trait or of the type, and the
+// words are the script's, so the value is wrapped.
 #[derive(Clone, Copy)]
 pub(crate) struct Text<T>(pub T);
 
@@ -82,6 +83,7 @@ impl fmt::Display for Text<RedirectionInformation> {
     }
 }
 
+// Nothing is written of none. One impl for the options of every type could not say what is written of a value in them.
 impl fmt::Display for Text<Option<Redirection<Number>>> {
     ghost output = { λ t. Some (redirection_text t.0) };
 

@@ -11,7 +11,7 @@ use std::fmt;
 // What a line asks for.
 #[derive(Debug, PartialEq, Eq, Drop)]
 pub enum Command {
-    // read a number's content, where the mark of a restricted presentation may be allowed
+    // read a number's content; whether it may be restricted is a bool, as the reader of numbers takes it
     Number { octets: Vec<u8>, may_restrict: bool },
     // read a message
     Read { octets: Vec<u8> },
@@ -42,6 +42,7 @@ impl fmt::Display for LineError<'_> {
     }
 }
 
+// Collecting the words fails with the one error of memory, pushing an octet with the other.
 impl From<AllocError> for LineError<'_> {
     ghost from_gives = { λ _ r. r ≡ memory };
 

@@ -32,7 +32,7 @@ fn octet(pair: &[u8]) -> Option<u8>
     Some(16 * hex_value(*high)? + hex_value(*low)?)
 }
 
-// Adds the octets that a word spells.
+// Adds the octets that a word spells. The kit's `hex` would make a list for each word, with an error of its own.
 fn add_octets<'a>(octets: &mut Vec<u8>, word: &'a str) -> Result<(), LineError<'a>>
     ensures { Gives (λ _. octets.new.items) result (after octets.old.items (spelt word.now)) }
 {
@@ -42,7 +42,7 @@ fn add_octets<'a>(octets: &mut Vec<u8>, word: &'a str) -> Result<(), LineError<'
     Ok(())
 }
 
-// The octets that words spell one after another.
+// The octets that words spell one after another. They are made in memory that is handed in, so this is no TryFrom.
 pub fn octets<'a>(heap: Global, words: &[&'a str]) -> Result<Vec<u8>, LineError<'a>>
     ensures { Gives vec_items result (octets_of (map (λ w. w.now) words.now)) }
 {

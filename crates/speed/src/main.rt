@@ -13,7 +13,8 @@ const USAGE: &str = "usage: speed OCTETS N          reads the message N times
        speed write OCTETS N    reads it once and writes it N times
 ";
 
-// How many of the readings gave a message; the call changes with each, so that none can be left out.
+// How many of the readings gave a message; the call changes with each, so that none can be left out. What a turn changes
+// is lent to the next, so the readings are counted by a loop and not by a filter.
 fn read_times(octets: &mut [u8], count: u64) -> u64 {
     let mut accepted: u64 = 0;
     for _ in 0..count {
@@ -64,9 +65,7 @@ fn time_reading(rt: &HostRuntime, octets: &mut [u8], count: u64) -> anyhow::Resu
 }
 
 fn time_writing(rt: &HostRuntime, octets: &[u8], count: u64) -> anyhow::Result<()> {
-    let Ok((_, message)) = read(octets) else {
-        return Err(anyhow!("the octets are no message"));
-    };
+    let (_, message) = read(octets).map_err(|_| anyhow!("the octets are no message"))?;
     let mut memory = [0u8; 64];
     let (sum, each) = timed(rt, count, || write_times(&message, &mut memory, count))?;
     if sum == 0 {

@@ -4,6 +4,7 @@
 use script::run_input;
 use std::process::ExitCode;
 
+// The status says that something went wrong; an error that `main` answered would be printed.
 fn main(rt: HostRuntime) -> ExitCode {
     match run_input(&rt) {
         Ok(()) => ExitCode::SUCCESS,
