@@ -3,9 +3,8 @@ use Rattle.std.proofs.Common.{Ok, Err, is_some, ◌≡◌, ℕ, ◌-◌, ◌<◌
 use Rattle.std.proofs.lemmas.Bool.{cond_both, false≢true, ltb-true}
 use Rattle.std.specs.List.{slice_get}
 use Rattle.waiting.specs.Items.{earliest, without_earliest}
-use Rattle.isup.specs.Ranges.{exchange_in}
+use Rattle.isup.specs.Ranges.{Exchange, exchange_in}
 use Rattle.isup.specs.declared.message.Service.{Service}
-use Rattle.isup.specs.declared.message.Exchange.{Exchange}
 use Rattle.numbers.specs.declared.refusal.Refusal.{Refusal}
 use Rattle.numbers.specs.declared.refusal.Refusal.TheVariants.{OutOfRange, NoRoute, CallInUse, NothingWaits, OtherState, NoDeflection, LimitReached, CallerUp, MessagesWait, Full}
 use Rattle.options.specs.declared.record.Record.{Record}

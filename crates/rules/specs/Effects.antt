@@ -1,8 +1,7 @@
 -- What happens to one call: when a message reaches an end of one of its legs, when a line reports, when the caller hangs up.
 use Rattle.std.specs.Prelude.{is_some, ℕ, zero, suc, Bool, true, false, cond, ◌&&◌, ◌||◌, List, [], ◌∷◌, ◌++◌, Some, None, Option, ◌==◌, nat_lt, slice_set}
 use Rattle.std.specs.List.{slice_get}
-use Rattle.isup.specs.declared.message.Cause.{Cause}
-use Rattle.isup.specs.declared.message.Exchange.{Exchange}
+use Rattle.isup.specs.Ranges.{Cause, Exchange}
 use Rattle.isup.specs.declared.message.LineStatus.TheVariants.{Free}
 use Rattle.isup.specs.declared.message.Message.{Message}
 use Rattle.isup.specs.declared.message.Message.TheVariants as message

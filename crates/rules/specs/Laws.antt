@@ -3,9 +3,8 @@ use Rattle.std.specs.Prelude.{Ok, Err, ◌≡◌, ℕ, suc, ◌<◌, ◌≤◌, 
 use Rattle.std.specs.List.{slice_get}
 use Rattle.numbers.specs.declared.number.Party.{Party}
 use Rattle.isup.specs.declared.message.Backward.{Backward}
-use Rattle.isup.specs.declared.message.Count.{Count}
+use Rattle.isup.specs.Ranges.{Count, Exchange}
 use Rattle.isup.specs.declared.message.Event.TheVariants.{Progress}
-use Rattle.isup.specs.declared.message.Exchange.{Exchange}
 use Rattle.isup.specs.declared.message.Indicator.{Indicator}
 use Rattle.isup.specs.declared.message.Indicator.TheVariants as indicator
 use Rattle.isup.specs.declared.message.LineStatus.TheVariants.{NoIndication}

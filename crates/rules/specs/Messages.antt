@@ -1,9 +1,8 @@
 -- The messages that are sent along a leg, and what a message is to the end that it comes to.
 use Rattle.std.specs.Prelude.{ℕ, zero, suc, Bool, true, false, cond, not, Some, None, Option}
 use Rattle.numbers.specs.declared.number.Party.{Party}
-use Rattle.isup.specs.Ranges.{cause_of, count_of}
+use Rattle.isup.specs.Ranges.{Exchange, cause_of, count_of}
 use Rattle.isup.specs.declared.message.Backward.{Backward}
-use Rattle.isup.specs.declared.message.Exchange.{Exchange}
 use Rattle.isup.specs.declared.message.Event.{Event}
 use Rattle.isup.specs.declared.message.Event.TheVariants as progress
 use Rattle.isup.specs.declared.message.LineStatus.{LineStatus}

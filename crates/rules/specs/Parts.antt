@@ -4,7 +4,7 @@ use Rattle.std.specs.Prelude.{Result, ℕ, Bool, List, [], ◌∷◌, None, Opti
 use Rattle.numbers.specs.declared.refusal.Refusal.{Refusal}
 use Rattle.isup.specs.Codes.{with_code}
 use Rattle.isup.specs.declared.message.Service.{Service}
-use Rattle.isup.specs.declared.message.Exchange.{Exchange}
+use Rattle.isup.specs.Ranges.{Exchange}
 use Rattle.isup.specs.declared.message.Way.{Way}
 use Rattle.isup.specs.declared.message.Message.{Message}
 use Rattle.isup.specs.declared.message.Envelope.{Envelope}

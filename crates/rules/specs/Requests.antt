@@ -3,8 +3,7 @@ use Rattle.std.specs.Prelude.{Ok, Err, Result, is_some, ℕ, Bool, true, false, 
 use Rattle.std.specs.List.{slice_get}
 use Rattle.numbers.specs.declared.refusal.Refusal.{Refusal}
 use Rattle.numbers.specs.declared.refusal.Refusal.TheVariants.{OutOfRange, NoRoute, CallInUse, NothingWaits, OtherState, NoDeflection, LimitReached, CallerUp, MessagesWait}
-use Rattle.isup.specs.Ranges.{exchange_in}
-use Rattle.isup.specs.declared.message.Exchange.{Exchange}
+use Rattle.isup.specs.Ranges.{Exchange, exchange_in}
 use Rattle.isup.specs.declared.message.Service.{Service}
 use Rattle.options.specs.declared.record.Kind.TheVariants.{Deflection}
 use Rattle.waiting.specs.Items.{earliest, without_earliest}

@@ -48,7 +48,7 @@ impl TryFrom<u8> for LineEvent {
 
 // A call of the network, with its arguments; calls, exchanges, legs and events are any numbers from 0 to 255, since one
 // that is out of range is refused in its turn.
-#[derive(Clone, Copy)]
+#[derive(Clone, Copy, Debug, PartialEq, Eq)]
 pub enum Request<N = Number> {
     Open {
         call: u8,
@@ -79,7 +79,7 @@ pub enum Request<N = Number> {
 }
 
 // What the network grants: the call that was opened, a step with its note, or, of all other requests, that it is done.
-#[derive(Clone, Copy)]
+#[derive(Clone, Copy, Debug, PartialEq, Eq)]
 pub enum Granted<N = Number> {
     Opened(u8),
     Stepped(Option<Note<N>>),

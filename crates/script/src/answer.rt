@@ -17,7 +17,7 @@ type NumberRead = Result<(Party<Number>, usize), NumberFault>;
 type MessageRead = Result<(Circuit, Message), MessageFault>;
 
 // What was read, or its fault.
-#[derive(Clone, Copy)]
+#[derive(Clone, Copy, Debug, PartialEq, Eq)]
 pub enum Answer {
     Number(NumberRead),
     Message(MessageRead),

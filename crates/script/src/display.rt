@@ -76,9 +76,9 @@ impl fmt::Display for Text<RedirectionInformation> {
         write!(
             f,
             "indicator {} count {} reason {}",
-            self.0.indicator.code(),
+            u8::from(self.0.indicator),
             self.0.count.value(),
-            self.0.reason.code()
+            u8::from(self.0.reason)
         )
     }
 }
@@ -111,8 +111,8 @@ impl fmt::Display for Text<Option<Notice<Number>>> {
         write!(
             f,
             " notice option {} reason {} number {}",
-            notice.information.notification.code(),
-            notice.information.reason.code(),
+            u8::from(notice.information.notification),
+            u8::from(notice.information.reason),
             Text(notice.number)
         )
     }
