@@ -1,10 +1,10 @@
 // What is asked of the network, and what it answers.
-ghost use Rattle.numbers.specs.declared.refusal.Refusal.TheVariants.{OutOfRange};
+ghost use Rattle.isup.specs.Codes.{known};
 ghost use Rattle.rules.specs.Parts.{event_number, line_event};
-ghost use Rattle.std.specs.Option.{ok_or};
 ghost use Rattle.std.specs.Prelude.{◌≡◌};
 
 use super::note::Note;
+use isup::codes::UnknownCode;
 use isup::message::Service;
 use numbers::number::Number;
 use numbers::refusal::Refusal;
@@ -29,11 +29,11 @@ impl From<LineEvent> for u8 {
 }
 
 impl TryFrom<u8> for LineEvent {
-    type Error = Refusal;
+    type Error = UnknownCode;
 
-    ghost try_from_gives = { λ number r. r ≡ ok_or (line_event number) OutOfRange };
+    ghost try_from_gives = { λ number r. r ≡ known number (line_event number) };
 
-    fn try_from(number: u8) -> Result<LineEvent, Refusal> {
+    fn try_from(number: u8) -> Result<LineEvent, UnknownCode> {
         match number {
             1 => Ok(LineEvent::BusyNetwork),
             2 => Ok(LineEvent::BusyUser),
@@ -41,7 +41,7 @@ impl TryFrom<u8> for LineEvent {
             4 => Ok(LineEvent::NoReply),
             5 => Ok(LineEvent::Answer),
             6 => Ok(LineEvent::HangsUp),
-            _ => Err(Refusal::OutOfRange),
+            _ => Err(UnknownCode(number)),
         }
     }
 }

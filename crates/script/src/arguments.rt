@@ -18,6 +18,7 @@ pub enum ArgumentError<'a> {
     TooMany,
 }
 
+// A derived Display would say nothing of the text.
 impl fmt::Display for ArgumentError<'_> {
     ghost output = { λ e. Some (argument_text e) };
 

@@ -26,6 +26,7 @@ pub enum LineError<'a> {
     Memory,
 }
 
+// A derived Display would say nothing of the text, which the transcript's contract needs.
 impl fmt::Display for LineError<'_> {
     ghost output = { λ e. Some (error_text e) };
 
