@@ -1,5 +1,6 @@
 -- The law of renaming: two runs that are alike but for the names of numbers give answers that are alike but for the names.
-use Rattle.std.specs.Prelude.{Ok, Err, ◌≡◌, ℕ, List, [], ◌∷◌, map, Some, None, Option}
+use Rattle.std.specs.Option.{option_map}
+use Rattle.std.specs.Prelude.{Ok, Err, ◌≡◌, ℕ, List, [], ◌∷◌, map}
 use Rattle.isup.specs.declared.message.Service.{Service}
 use Rattle.options.specs.declared.record.Kind.{Kind}
 use Rattle.options.specs.declared.record.Record.{Record}
@@ -17,10 +18,6 @@ pub record OneToOne (N M : Type 0) : Type 0 where
   pub there_back : (y : M) → there (back y) ≡ y
   pub back_there : (x : N) → back (there x) ≡ x
 
-abbrev pub renamed_if : {A B : Type 0} → (A → B) → Option A → Option B
-renamed_if f None = None
-renamed_if f (Some a) = Some (f a)
-
 -- the same request, its number renamed
 abbrev pub renamed_request : {N M : Type 0} → (N → M) → Request N → Request M
 renamed_request f (Open c x n service) = Open c x (f n) service
@@ -36,18 +33,18 @@ renamed_record f r = record { target = f r.target; option = r.option; may_releas
 
 -- the same note, the number shown renamed
 abbrev pub renamed_note : {N M : Type 0} → (N → M) → Note N → Note M
-renamed_note f n = record { call = n.call; kind = n.kind; diverted = n.diverted; shown = renamed_if f n.shown }
+renamed_note f n = record { call = n.call; kind = n.kind; diverted = n.diverted; shown = option_map f n.shown }
 
 -- the same answer, the number shown renamed
 abbrev pub renamed_answer : {N M : Type 0} → (N → M) → Answer N → Answer M
 renamed_answer f (Err r) = Err r
 renamed_answer f (Ok (granted.Opened c)) = Ok (granted.Opened c)
-renamed_answer f (Ok (granted.Stepped n)) = Ok (granted.Stepped (renamed_if (renamed_note f) n))
+renamed_answer f (Ok (granted.Stepped n)) = Ok (granted.Stepped (option_map (renamed_note f) n))
 renamed_answer f (Ok granted.Done) = Ok granted.Done
 
 -- two stores' records and withheld marks match under a renaming
 pub record Matches {N M : Type 0} (f : N → M) (m : Meaning N) (p : Meaning M) : Type 0 where
-  pub held : (n : N) (service : Service) (w : Kind) → p.held (f n) service w ≡ renamed_if (renamed_record f) (m.held n service w)
+  pub held : (n : N) (service : Service) (w : Kind) → p.held (f n) service w ≡ option_map (renamed_record f) (m.held n service w)
   pub withheld : (n : N) → p.withheld (f n) ≡ m.withheld n
 
 -- two calls of the network match: the same request, renamed, with stores that match

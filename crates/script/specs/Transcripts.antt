@@ -19,10 +19,12 @@ pub data Output : Type 0 where
   answered : List ℕ → Output
   mistaken : List ℕ → Output
 
+-- an answer stands behind the number of its line
 abbrev pub answer_line : ℕ → Option Answer → Output
 answer_line n None = silent
 answer_line n (Some a) = answered (decimal n ++ (codes ": " ++ (answer_text a ++ (newline ∷ []))))
 
+-- so does why a line is none of the script's
 abbrev pub error_line : ℕ → List ℕ → Output
 error_line n why = mistaken (decimal n ++ (codes ": error " ++ (why ++ (newline ∷ []))))
 
@@ -40,6 +42,7 @@ pub record State : Type 0 where
   pub text : List ℕ
   pub lines_counted : LineCounts
 
+-- what a transcript has so far
 abbrev pub state_of : Transcript → State
 state_of t = record { text = string_bytes t.text; lines_counted = t.lines }
 
@@ -68,5 +71,6 @@ first_state = record { text = []; lines_counted = no_lines }
 abbrev pub final_state : List ℕ → State
 final_state script = carry_out 1 (lines script) first_state
 
+-- what was written for the lines, then the report
 abbrev pub transcript : List ℕ → List ℕ
 transcript script = (final_state script).text ++ (report_text (report_of (final_state script).lines_counted) ++ (newline ∷ []))

@@ -2,9 +2,11 @@
 use Rattle.std.specs.Prelude.{ℕ, List, filter, length, not, ◌==◌}
 use Rattle.std.specs.List.{slice_split}
 
+-- a line feed
 abbrev pub newline : ℕ
 newline = 10
 
+-- a space
 abbrev pub space : ℕ
 space = 32
 
@@ -16,5 +18,6 @@ pieces c text = slice_split (λ b. b == c) text
 abbrev pub words : List ℕ → List (List ℕ)
 words text = filter (λ piece. not (length piece == 0)) (pieces space text)
 
+-- the pieces between line feeds
 abbrev pub lines : List ℕ → List (List ℕ)
 lines text = pieces newline text
