@@ -1,7 +1,8 @@
 // Reading the mandatory part of a message, front to back.
 ghost use Rattle.std.specs.Prelude.{◌≡◌, ◌+◌, ◌^◌, ◌<◌, ◌≤◌, length, Ok, Err, MatchResult, OnOk, IfOk, Result};
+ghost use Rattle.std.specs.Result.{result_ok};
 ghost use Rattle.isup.specs.declared.codes.UnknownCode.{UnknownCode};
-ghost use Rattle.decode.specs.Faults.{known_or_fault};
+ghost use Rattle.decode.specs.Faults.{or_value_fault};
 ghost use Rattle.decode.specs.Messages.{octet_in, exact_in, variable_in, optional_in, tail_in};
 
 use crate::fault::MessageFault;
@@ -53,7 +54,7 @@ impl<'a> Mandatory<'a> {
 
     // The value that an octet is the code of.
     pub fn coded<T: TryFrom<u8, Error = UnknownCode> + Copy>(&mut self) -> Result<T, MessageFault>
-        ensures read { MatchResult (octet_in self.old.octets.now self.old.place) (λ code. (r : Result T UnknownCode) × (T.try_from_gives code r × (result ≡ known_or_fault r self.old.place))) (λ f. result ≡ Err f) }
+        ensures read { MatchResult (octet_in self.old.octets.now self.old.place) (λ code. (r : Result T UnknownCode) × (T.try_from_gives code r × (result ≡ or_value_fault (result_ok r) self.old.place))) (λ f. result ≡ Err f) }
         ensures moved { OnOk result (self.new.place ≡ self.old.place + 1) }
         ensures same { self.new.octets.now ≡ self.old.octets.now }
     {
