@@ -11,8 +11,8 @@ use crate::parameter::OptionalPart;
 use isup::codes::UnknownCode;
 use isup::row::Row;
 
-// A message's octets and the place that the reader has come to. Who reads gives the place to begin at, since a reader that comes
-// from a call holds octets that are equal to the message's but not the same to the proof, and release and initial address stayed open.
+// A message's octets and the place that the reader has come to. Who reads gives the place to begin at: the octets of a reader that
+// comes from a call are equal to the message's but not the same to the proof, and that of release and initial address stays open.
 #[derive(Drop)]
 pub(crate) struct Mandatory<'a> {
     pub octets: &'a [u8],

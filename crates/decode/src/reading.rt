@@ -148,7 +148,7 @@ fn message(octets: &[u8]) -> Result<Message, MessageFault>
     }
 }
 
-// The length, the circuit, and the message of the type octet. It stands apart from `read`, whose second clause follows from the first.
+// The length, the circuit, and the message of the type octet. Apart from `read`, whose second clause then follows from the first.
 fn front_to_back(octets: &[u8]) -> Result<(Circuit, Message), MessageFault>
     ensures { result ≡ read_message octets.now }
 {
