@@ -1,8 +1,6 @@
 -- The number, the place and the inner fault of each fault of a message.
 use Rattle.std.specs.Prelude.{ℕ, Some, None, Ok, Err, Option, Result}
 use Rattle.numbers.specs.declared.number.NumberFault.{NumberFault}
-use Rattle.isup.specs.declared.codes.UnknownCode.{UnknownCode}
-use Rattle.decode.specs.declared.fault.FaultAt.{FaultAt}
 use Rattle.decode.specs.declared.fault.MessageFault.{MessageFault}
 use Rattle.decode.specs.declared.fault.MessageFault.TheVariants.{Length, Kind, Missing, Pointer, Optional, Value, Repeated, Group}
 
@@ -42,16 +40,6 @@ fault_within (Group p) = None
 abbrev pub or_value_fault : {X : Type 0} → Option X → ℕ → Result X MessageFault
 or_value_fault (Some x) place = Ok x
 or_value_fault None place = Err (Value place None)
-
--- a code that no value has is no lawful value
-abbrev pub known_or_fault : {X : Type 0} → Result X UnknownCode → ℕ → Result X MessageFault
-known_or_fault (Ok x) place = Ok x
-known_or_fault (Err e) place = Err (Value place None)
-
--- a number's fault with the place of its field
-abbrev pub fault_at : {X : Type 0} → Result X NumberFault → ℕ → Result X FaultAt
-fault_at (Ok x) p = Ok x
-fault_at (Err f) p = Err (record { place = p; fault = f })
 
 -- one reading after another, up to the first fault
 abbrev pub then : {A B : Type 0} → Result A MessageFault → (A → Result B MessageFault) → Result B MessageFault

@@ -1,7 +1,8 @@
 // Reading the mandatory part of a message, front to back.
 ghost use Rattle.std.specs.Prelude.{◌≡◌, ◌+◌, ◌^◌, ◌<◌, ◌≤◌, length, Ok, Err, MatchResult, OnOk, IfOk, Result};
+ghost use Rattle.std.specs.Result.{result_ok};
 ghost use Rattle.isup.specs.declared.codes.UnknownCode.{UnknownCode};
-ghost use Rattle.decode.specs.Faults.{known_or_fault};
+ghost use Rattle.decode.specs.Faults.{or_value_fault};
 ghost use Rattle.decode.specs.Messages.{octet_in, exact_in, variable_in, optional_in, tail_in};
 
 use crate::fault::MessageFault;
@@ -10,8 +11,8 @@ use crate::parameter::OptionalPart;
 use isup::codes::UnknownCode;
 use isup::row::Row;
 
-// A message's octets and the place that the reader has come to. Who reads gives the place to begin at, since a reader that comes
-// from a call holds octets that are equal to the message's but not the same to the proof, and release and initial address stayed open.
+// A message's octets and the place that the reader has come to. Who reads gives the place to begin at: the octets of a reader that
+// comes from a call are equal to the message's but not the same to the proof, and that of release and initial address stays open.
 #[derive(Drop)]
 pub(crate) struct Mandatory<'a> {
     pub octets: &'a [u8],
@@ -53,7 +54,7 @@ impl<'a> Mandatory<'a> {
 
     // The value that an octet is the code of.
     pub fn coded<T: TryFrom<u8, Error = UnknownCode> + Copy>(&mut self) -> Result<T, MessageFault>
-        ensures read { MatchResult (octet_in self.old.octets.now self.old.place) (λ code. (r : Result T UnknownCode) × (T.try_from_gives code r × (result ≡ known_or_fault r self.old.place))) (λ f. result ≡ Err f) }
+        ensures read { MatchResult (octet_in self.old.octets.now self.old.place) (λ code. (r : Result T UnknownCode) × (T.try_from_gives code r × (result ≡ or_value_fault (result_ok r) self.old.place))) (λ f. result ≡ Err f) }
         ensures moved { OnOk result (self.new.place ≡ self.old.place + 1) }
         ensures same { self.new.octets.now ≡ self.old.octets.now }
     {

@@ -2,7 +2,7 @@
 ghost use Rattle.std.specs.Prelude.{◌≡◌, ◌≤◌, length, MatchResult, OnErr, Ok, Err};
 ghost use Rattle.numbers.specs.Reading.{read_number};
 ghost use Rattle.decode.specs.Parameters.{part_of, InItsCase};
-ghost use Rattle.decode.specs.Optional.{nothing, number_at, value_of, start, add_of, end_of, optional_from};
+ghost use Rattle.decode.specs.Optional.{number_at, value_of, add_of, end_of, optional_from};
 
 use crate::fault::{FaultAt, MessageFault};
 use crate::parameter::{OptionalParameter, OptionalPart};

@@ -1,6 +1,6 @@
 // Reading a message, front to back.
-ghost use Rattle.std.specs.Prelude.{◌≡◌, ◌≤◌, length, OnOk};
-ghost use Rattle.decode.specs.Messages.{octet_in, exact_in, variable_in, optional_in, tail_in, redirection_in, notice_in, service_in, backward_of, initial_address_in, address_complete_in, call_progress_in, answer_in, connect_in, release_in, message_in, read_message};
+ghost use Rattle.std.specs.Prelude.{◌≡◌, ◌≤◌, length};
+ghost use Rattle.decode.specs.Messages.{redirection_in, notice_in, service_in, backward_of, initial_address_in, address_complete_in, call_progress_in, answer_in, connect_in, release_in, message_in, read_message};
 ghost use Rattle.decode.specs.Reading.{ReadAsCoded, EveryCodingIsRead, OnlyCodingsAreRead, OneMessageToACoding};
 
 use crate::fault::MessageFault;
@@ -20,6 +20,7 @@ fn redirection(g: &Gathered, length: usize) -> Result<Option<Redirection<Number>
 {
     let group = all_or_none(g.redirecting, g.original, g.information);
     let group = group.map_err(|_| MessageFault::Group(length))?;
+    // A `map` here would copy the group once more.
     let Some((redirecting, original, information)) = group else {
         return Ok(None);
     };
@@ -36,6 +37,7 @@ fn notice(g: &Gathered, length: usize) -> Result<Option<Notice<Number>>, Message
 {
     let group = all_or_none(g.announced.then_some(()), g.diversion, g.redirection);
     let group = group.map_err(|_| MessageFault::Group(length))?;
+    // As above.
     let Some((_, information, number)) = group else {
         return Ok(None);
     };
@@ -146,7 +148,7 @@ fn message(octets: &[u8]) -> Result<Message, MessageFault>
     }
 }
 
-// The length, the circuit, and the message of the type octet.
+// The length, the circuit, and the message of the type octet. Apart from `read`, whose second clause then follows from the first.
 fn front_to_back(octets: &[u8]) -> Result<(Circuit, Message), MessageFault>
     ensures { result ≡ read_message octets.now }
 {
