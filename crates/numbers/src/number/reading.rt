@@ -37,6 +37,7 @@ fn digits_and_filler(
     ensures { result ≡ read_digits restricted count octets.now }
 {
     let halves = halves(octets);
+    // By `else`: with `map_err` and `?` the proof has to follow two calls and a closure more.
     let Ok(number) = Number::try_from(&halves[..count]) else {
         return Err(NumberFault::Digit);
     };

@@ -1,6 +1,5 @@
-use Rattle.std.proofs.Common.{ℕ, List, ◌++◌, refl, ap, ◌∙◌, arith}
-use Rattle.std.proofs.lemmas.List.{take_all}
-use Rattle.numbers.specs.Drafts.{drafted, cut}
+use Rattle.std.proofs.Common.{refl, arith}
+use Rattle.numbers.specs.Drafts.{drafted}
 use Rattle.numbers.proofs.Cuts.{cut_none, cut_next}
 use Rattle.numbers.proofs.draft.Draft.push_all.Goals as goal
 
@@ -11,7 +10,3 @@ pub loop-octet-preserved : goal.loop-octet-preserved
 loop-octet-preserved c =
     cut_next (drafted c.args.self.now) (drafted c.loop-octet.self) (drafted c.push.new.self) c.args.octets.now c.loop-octet.octet-index _
     (omega arith) refl c.loop-octet.invariant c.push.ensures
-
-pub returns : goal.returns
-returns c =
-    c.loop-octet.invariant ∙ ap (λ (l : List ℕ). cut (drafted c.args.self.now ++ l)) (take_all c.loop-octet.octet-index c.args.octets.now (omega arith))
