@@ -1,6 +1,7 @@
 -- Lists with places, and the signals of a call.
 use Rattle.std.proofs.Common.{◌≡◌, ℕ, zero, suc, ◌<◌, Bool, true, false, cond, eqb, List, [], ◌∷◌, ◌++◌, length, set, Some, None, Option, sym, refl, ap, ◌∙◌, subst, arith}
 use Rattle.std.proofs.lemmas.Bool.{eqb-true, eq-eqb, ne_eqb, cond-true, cond-false, and_parts}
+use Rattle.std.proofs.lemmas.Option.{none-some, same_Some}
 use Rattle.waiting.specs.Items.{earliest, without_earliest}
 use Rattle.rules.specs.Parts.{at, Signal}
 use Rattle.rules.specs.Requests.{between, signals_for}
@@ -13,43 +14,8 @@ pub by_bool : (b : Bool) (P : Bool → Type 0) → (b ≡ true → P true) → (
 by_bool true P t f = t refl
 by_bool false P t f = f refl
 
-abbrev IsSome : {A : Type 0} → Option A → Type 0
-IsSome None = ⊥
-IsSome (Some a) = Unit {0}
-
-pub none_some : {A : Type 0} {a : A} → None ≡ Some a → ⊥
-none_some e = subst IsSome (sym e) tt
-
-abbrev or_this : {A : Type 0} → A → Option A → A
-or_this a None = a
-or_this a (Some b) = b
-
-pub some_inj : {A : Type 0} {a b : A} → Some a ≡ Some b → a ≡ b
-some_inj {A} {a} {b} e = ap (or_this a) e
-
-pub nil-++ : {A : Type 0} (xs : List A) → xs ++ [] ≡ xs
-nil-++ [] = refl
-nil-++ (x ∷ xs) = ap (λ ys. x ∷ ys) (nil-++ xs)
-
-pub at_set_same : {A : Type 0} (xs : List (Option A)) (k : ℕ) (v : Option A) → k < length xs → at (set xs k v) k ≡ v
-at_set_same [] k v h = absurd (omega arith)
-at_set_same (x ∷ xs) zero v h = refl
-at_set_same (x ∷ xs) (suc k) v h = at_set_same xs k v (omega arith)
-
-pub at_set_other : {A : Type 0} (xs : List (Option A)) (k j : ℕ) (v : Option A) → (j ≡ k → ⊥) → at (set xs k v) j ≡ at xs j
-at_set_other [] k j v h = refl
-at_set_other (x ∷ xs) zero zero v h = absurd (h refl)
-at_set_other (x ∷ xs) zero (suc j) v h = refl
-at_set_other (x ∷ xs) (suc k) zero v h = refl
-at_set_other (x ∷ xs) (suc k) (suc j) v h = at_set_other xs k j v (λ e. h (ap suc e))
-
-pub length-set : {A : Type 0} (xs : List A) (k : ℕ) (v : A) → length (set xs k v) ≡ length xs
-length-set [] k v = refl
-length-set (x ∷ xs) zero v = refl
-length-set (x ∷ xs) (suc k) v = ap suc (length-set xs k v)
-
 pub at_below : {A : Type 0} (xs : List (Option A)) (k : ℕ) (a : A) → at xs k ≡ Some a → k < length xs
-at_below [] k a e = absurd (none_some e)
+at_below [] k a e = absurd (none-some a e)
 at_below (x ∷ xs) zero a e = omega arith
 at_below (x ∷ xs) (suc k) a e = let r : k < length xs = at_below xs k a e in omega arith
 
@@ -90,10 +56,10 @@ pub record Splits {N : Type 0} (a b : ℕ) (ws : List (Signal N)) (e : Signal N)
 splits_here : {N : Type 0} (a b : ℕ) (x : Signal N) (xs : List (Signal N)) (e : Signal N) → between a b x ≡ true → Some x ≡ Some e → Splits a b (x ∷ xs) e
 splits_here a b x xs e t q =
     let h = and_parts (eqb x.from a) (eqb x.to b) t in
-    subst (Splits a b (x ∷ xs)) (some_inj q) (record { before = []; behind = xs; whole = refl; left = cond-true (between a b x) xs _ t; first = tt; from = eqb-true x.from a h.0; to = eqb-true x.to b h.1 })
+    subst (Splits a b (x ∷ xs)) (same_Some x e q) (record { before = []; behind = xs; whole = refl; left = cond-true (between a b x) xs _ t; first = tt; from = eqb-true x.from a h.0; to = eqb-true x.to b h.1 })
 
 pub earliest_splits : {N : Type 0} (a b : ℕ) (ws : List (Signal N)) (e : Signal N) → earliest (between a b) ws ≡ Some e → Splits a b ws e
-earliest_splits a b [] e q = absurd (none_some q)
+earliest_splits a b [] e q = absurd (none-some e q)
 earliest_splits a b (x ∷ xs) e q =
     by_bool (between a b x) (λ t. between a b x ≡ t → cond t (Some x) (earliest (between a b) xs) ≡ Some e → Splits a b (x ∷ xs) e)
     (λ _ t. splits_here a b x xs e t)
@@ -111,6 +77,6 @@ earliest_splits a b (x ∷ xs) e q =
     refl q
 
 pub at_set_is : {A : Type 0} (xs : List (Option A)) (k : ℕ) (v : Option A) (a : A) → at (set xs k v) k ≡ Some a → v ≡ Some a
-at_set_is [] k v a e = absurd (none_some e)
+at_set_is [] k v a e = absurd (none-some a e)
 at_set_is (x ∷ xs) zero v a e = e
 at_set_is (x ∷ xs) (suc k) v a e = at_set_is xs k v a e

@@ -1,11 +1,10 @@
 -- What is to be shown of each accepted request, so as to have it of every decision and every outcome.
-use Rattle.std.proofs.Common.{◌≡◌, ℕ, ◌-◌, ◌<◌, Bool, true, false, not, ◌&&◌, ◌||◌, ltb, leb, List, [], ◌∷◌, length, Some, None, Option, refl}
+use Rattle.std.proofs.Common.{Ok, Err, is_some, ◌≡◌, ℕ, ◌-◌, ◌<◌, Bool, true, false, not, ◌&&◌, ◌||◌, ltb, leb, List, [], ◌∷◌, length, Some, None, Option, refl}
 use Rattle.std.proofs.lemmas.Bool.{cond_both, false≢true, ltb-true}
 use Rattle.std.specs.List.{slice_get}
 use Rattle.waiting.specs.Items.{earliest, without_earliest}
-use Rattle.isup.specs.Ranges.{exchange_in}
+use Rattle.isup.specs.Ranges.{Exchange, exchange_in}
 use Rattle.isup.specs.declared.message.Service.{Service}
-use Rattle.isup.specs.declared.message.Exchange.{Exchange}
 use Rattle.numbers.specs.declared.refusal.Refusal.{Refusal}
 use Rattle.numbers.specs.declared.refusal.Refusal.TheVariants.{OutOfRange, NoRoute, CallInUse, NothingWaits, OtherState, NoDeflection, LimitReached, CallerUp, MessagesWait, Full}
 use Rattle.options.specs.declared.record.Record.{Record}
@@ -13,17 +12,17 @@ use Rattle.rules.specs.declared.leg.Leg.{Leg}
 use Rattle.rules.specs.declared.request.Request.{Request}
 use Rattle.rules.specs.declared.request.LineEvent.{LineEvent}
 use Rattle.rules.specs.declared.request.Request.TheVariants.{Open, Step, Report, Deflect, HangUp, Clear}
-use Rattle.rules.specs.Effects.{is_given, reported, diverts, Effect, hangs_up}
+use Rattle.rules.specs.Effects.{reported, diverts, Effect, hangs_up}
 use Rattle.rules.specs.Parts.{at, Setup, Meaning, line_event, is_offered, Signal, is_alerting, State, Call}
-use Rattle.rules.specs.Requests.{between, Done, signals_for, decide, is_empty, takes, accepts, first_leg, affects, need, refuses, clears, Decision, require, opens}
+use Rattle.rules.specs.Requests.{between, Done, signals_for, decide, is_empty, takes, first_leg, affects, need, clears, Decision, require, opens}
 use Rattle.rules.specs.Runs.{settles, Outcome, refusal, outcome}
 use Rattle.rules.proofs.Basics.{earliest_splits, Splits}
 use Rattle.options.specs.declared.record.Kind.TheVariants as kind
 
 -- a decision is a refusal, or does what is asked of it
 abbrev pub Decides : {N : Type 0} → (Done N → Type 0) → Decision N → Type 0
-Decides P (refuses r) = Unit {0}
-Decides P (accepts d) = P d
+Decides P (Err r) = Unit {0}
+Decides P (Ok d) = P d
 
 pub record Accepting {N : Type 0} (s : Setup N) (m : Meaning N) (g : State N) (Q : Request N → Done N → Type 0) : Type 0 where
   pub at_opening : (c x : ℕ) (n : N) (sv : Service) (y z : Exchange) → c < 64 → exchange_in x ≡ Some y → at g.calls c ≡ None → s.route n ≡ Some z → Q (Open c x n sv) (opens g c sv (first_leg y n z))
@@ -38,7 +37,7 @@ nil_is : {A : Type 0} (xs : List A) → is_empty xs ≡ true → xs ≡ []
 nil_is [] e = refl
 nil_is (x ∷ xs) e = absurd (false≢true e)
 
-not_given : {A : Type 0} (o : Option A) → not (is_given o) ≡ true → o ≡ None
+not_given : {A : Type 0} (o : Option A) → not (is_some o) ≡ true → o ≡ None
 not_given None e = refl
 not_given (Some a) e = absurd (false≢true e)
 
@@ -57,14 +56,14 @@ Room g d = leb (length d.sent) (g.capacity - length d.left) ≡ true
 
 pub settled : {N : Type 0} (P : Done N → Type 0) (g : State N) (R : Outcome N → Type 0) → ((r : Refusal) → R (refusal g r)) → ((d : Done N) → P d → Room g d → R (outcome g d)) →
     (d : Decision N) → Decides P d → R (settles g d)
-settled P g R nay yea (refuses r) h = nay r
-settled P g R nay yea (accepts d) h = cond_both (leb (length d.sent) (g.capacity - length d.left)) (outcome g d) (refusal g Full) R (λ e. yea d h e) (λ _. nay Full)
+settled P g R nay yea (Err r) h = nay r
+settled P g R nay yea (Ok d) h = cond_both (leb (length d.sent) (g.capacity - length d.left)) (outcome g d) (refusal g Full) R (λ e. yea d h e) (λ _. nay Full)
 
 pub decided : {N : Type 0} (s : Setup N) (m : Meaning N) (g : State N) (Q : Request N → Done N → Type 0) → Accepting s m g Q → (q : Request N) → Decides (Q q) (decide s m g q)
 decided s m g Q h (Open c x n sv) =
     at_require (Q (Open c x n sv)) OutOfRange (ltb c 64) _ (λ lt.
     at_need (Q (Open c x n sv)) OutOfRange (exchange_in x) _ (λ y ey.
-    at_require (Q (Open c x n sv)) CallInUse (not (is_given (at g.calls c))) _ (λ e.
+    at_require (Q (Open c x n sv)) CallInUse (not (is_some (at g.calls c))) _ (λ e.
     at_need (Q (Open c x n sv)) NoRoute (s.route n) _ (λ z ez.
     h.at_opening c x n sv y z (ltb-true c 64 lt) ey (not_given (at g.calls c) e) ez))))
 decided s m g Q h (Step a b) =

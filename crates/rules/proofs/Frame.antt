@@ -1,21 +1,21 @@
 -- What holds of each open call, and how a call of the network that touches one call leaves the others.
-use Rattle.std.proofs.Common.{◌≡◌, ℕ, ◌<◌, true, false, cond, ◌&&◌, eqb, ltb, List, [], ◌∷◌, ◌++◌, length, set, Some, None, Option, sym, refl, ap, ◌∙◌, subst, subst₂, ⊎_elim}
+use Rattle.std.proofs.Common.{Ok, Err, ◌≡◌, ℕ, ◌<◌, true, false, cond, ◌&&◌, eqb, ltb, List, [], ◌∷◌, ◌++◌, length, set, Some, None, Option, sym, refl, ap, ◌∙◌, subst, subst₂, append-nil, ⊎_elim}
+use Rattle.std.proofs.lemmas.List.{length-set, get_or-set_same, get_or-set_other}
 use Rattle.std.proofs.lemmas.Bool.{eq-eqb, ne_eqb, cond-true, cond-false, cases_eq}
 use Rattle.numbers.specs.declared.refusal.Refusal.{Refusal}
 use Rattle.options.specs.declared.record.Kind.{Kind}
 use Rattle.options.specs.declared.record.Record.{Record}
 use Rattle.rules.specs.declared.note.Note.{Note}
-use Rattle.rules.specs.declared.request.Answer.{Answer}
 use Rattle.rules.specs.declared.request.Request.{Request}
 use Rattle.rules.specs.Effects.{usable_record, Usable, Effect, usable_to}
 use Rattle.rules.specs.Laws.{Address, Shows, Addresses, Diverts, ShowsIn, Along, diverted_in, Each, ShowsBy, ShowsAt}
 use Rattle.rules.specs.Ledger.{addition, with_addition, added_by, advance, Addition, written, extended_in, routed, Account, extended, keeps, Ledger, adds}
-use Rattle.rules.specs.Parts.{Signal, at, Setup, Meaning, Call, State}
+use Rattle.rules.specs.Parts.{Answer, Signal, at, Setup, Meaning, Call, State}
 use Rattle.rules.specs.Requests.{Done, signals_for, Decision, decide}
 use Rattle.rules.specs.Runs.{entry, is_refused, refusal, observed, taken_in, Outcome, settles, runs, Turn, Entry, perform}
-use Rattle.rules.proofs.Basics.{length-set, at_below, AllOf, by_opt, of_call_other, at_set_same, of_call_mine, signals-++, nil-++, by_bool, at_set_other}
+use Rattle.rules.proofs.Basics.{at_below, AllOf, by_opt, of_call_other, of_call_mine, signals-++, by_bool}
 use Rattle.rules.proofs.Decisions.{settled, Decides}
-use Rattle.rules.specs.declared.request.Answer.TheVariants as answer
+use Rattle.rules.specs.declared.request.Granted.TheVariants as granted
 
 abbrev pub Pred : Type 0 → Type 1
 Pred N = ℕ → Account N → Call N → List (Signal N) → Type 0
@@ -38,10 +38,10 @@ frame P L M g c v ws h lt ml mw here =
       size = length-set g.calls c v ∙ h.size;
       each = λ j. ⊎_elim
           (λ (e : j ≡ c). subst (λ k. AtCall P k (M k) (at (set g.calls c v) k) (signals_for k ws)) (sym e)
-          (subst (λ o. AtCall P c (M c) o (signals_for c ws)) (sym (at_set_same g.calls c v (subst (λ n. c < n) (sym h.size) lt))) here))
+          (subst (λ o. AtCall P c (M c) o (signals_for c ws)) (sym (get_or-set_same g.calls c v None (subst (λ n. c < n) (sym h.size) lt))) here))
           (λ (n : j ≡ c → ⊥).
           subst (λ o. AtCall P j o (at (set g.calls c v) j) (signals_for j ws)) (sym (ml j n))
-          (subst (λ o. AtCall P j (L j) o (signals_for j ws)) (sym (at_set_other g.calls c j v n))
+          (subst (λ o. AtCall P j (L j) o (signals_for j ws)) (sym (get_or-set_other g.calls c j v None n))
           (subst (λ xs. AtCall P j (L j) (at g.calls j) xs) (sym (mw j n)) (h.each j))))
           (cases_eq j c);
     }
@@ -137,28 +137,28 @@ addresses_from s M c y None sent h e k = k
 addresses_from s M c y (Some a) sent h e k = subst (λ o. Address s o a sent) (sym (ap M h ∙ e)) k
 
 abbrev pub Replies : {N : Type 0} → ℕ → Option (Signal N) → Effect N → Answer N → Type 0
-Replies c t f (answer.Refused r) = ⊥
-Replies c t f (answer.Opened j) = Unit {0}
-Replies c None f (answer.Stepped n) = ⊥
-Replies c (Some t) f (answer.Stepped n) = (t.call ≡ c) × (n ≡ f.note)
-Replies c t f answer.Done = Unit {0}
+Replies c t f (Err r) = ⊥
+Replies c t f (Ok (granted.Opened j)) = Unit {0}
+Replies c None f (Ok (granted.Stepped n)) = ⊥
+Replies c (Some t) f (Ok (granted.Stepped n)) = (t.call ≡ c) × (n ≡ f.note)
+Replies c t f (Ok granted.Done) = Unit {0}
 
 accepted : {N : Type 0} (c : ℕ) (t : Option (Signal N)) (f : Effect N) (a : Answer N) → Replies c t f a → is_refused a ≡ false
-accepted c t f (answer.Refused r) h = absurd h
-accepted c t f (answer.Opened j) h = refl
-accepted c t f (answer.Stepped n) h = refl
-accepted c t f answer.Done h = refl
+accepted c t f (Err r) h = absurd h
+accepted c t f (Ok (granted.Opened j)) h = refl
+accepted c t f (Ok (granted.Stepped n)) h = refl
+accepted c t f (Ok granted.Done) h = refl
 
 note_from : {N : Type 0} (L : Ledger N) (c : ℕ) (x : Account N) (t : Signal N) (o : Option (Note N)) → L c ≡ Some x → t.call ≡ c → Noted c x o → ShowsIn L (Some t) o
 note_from L c x t None e h k = tt
 note_from L c x t (Some n) e h k = (ap Some (h ∙ sym k.0), subst (λ o. ShowsAt o n.kind n.shown) (sym (ap L k.0 ∙ e)) k.1)
 
 shows_from : {N : Type 0} (L : Ledger N) (c : ℕ) (x : Account N) (t : Option (Signal N)) (f : Effect N) (a : Answer N) → L c ≡ Some x → Noted c x f.note → Replies c t f a → ShowsBy L t a
-shows_from L c x t f (answer.Refused r) e k h = tt
-shows_from L c x t f (answer.Opened j) e k h = tt
-shows_from L c x None f (answer.Stepped n) e k h = absurd h
-shows_from L c x (Some t) f (answer.Stepped n) e k h = subst (ShowsIn L (Some t)) (sym h.1) (note_from L c x t f.note e h.0 k)
-shows_from L c x t f answer.Done e k h = tt
+shows_from L c x t f (Err r) e k h = tt
+shows_from L c x t f (Ok (granted.Opened j)) e k h = tt
+shows_from L c x None f (Ok (granted.Stepped n)) e k h = absurd h
+shows_from L c x (Some t) f (Ok (granted.Stepped n)) e k h = subst (ShowsIn L (Some t)) (sym h.1) (note_from L c x t f.note e h.0 k)
+shows_from L c x t f (Ok granted.Done) e k h = tt
 
 pub holds : {N : Type 0} (P : Pred N) (s : Setup N) (L : Ledger N) (m : Meaning N) (g : State N) (q : Request N) (c : ℕ) (x y : Account N) (d : Call N)
     (taken : Option (Signal N)) (rest : List (Signal N)) (f : Effect N) (a : Answer N) (add : Option (Addition N)) → adds s L m (taken_in taken) q ≡ add →
@@ -180,7 +180,7 @@ holds {N} P s L m g q c x y d taken rest f a add eadd h ed ex ey oy mi or re lo 
       subst (λ M. Inv P M (record { calls = set g.calls c (Some f.call); capacity = g.capacity; waiting = rest ++ f.sent })) (sym em)
           (frame P L (with_addition (keeps L m q) add) g c (Some f.call) (rest ++ f.sent) h below
           (λ j n. grows_other (keeps L m q) c j add mi n ∙ oy j n)
-          (λ j n. signals-++ j rest f.sent ∙ ap (λ zs. signals_for j rest ++ zs) (of_call_other c j f.sent n lo.mine) ∙ nil-++ (signals_for j rest) ∙ or j n)
+          (λ j n. signals-++ j rest f.sent ∙ ap (λ zs. signals_for j rest ++ zs) (of_call_other c j f.sent n lo.mine) ∙ append-nil (signals_for j rest) ∙ or j n)
           (subst₂ (λ o zs. AtCall P c o (Some f.call) zs) (sym mc) (sym ws) lo.keeps)),
     )
 

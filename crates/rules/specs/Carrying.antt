@@ -1,10 +1,9 @@
 -- The law of what waits: signals neither vanish nor appear, and nothing changes the capacity.
-use Rattle.std.specs.Prelude.{◌≡◌, ℕ, ◌≤◌, Bool, true, false, List, [], ◌∷◌, ◌++◌, length, Some, None, Option}
-use Rattle.rules.specs.declared.request.Answer.{Answer}
-use Rattle.rules.specs.declared.request.Answer.TheVariants as answer
+use Rattle.std.specs.Prelude.{Ok, Err, ◌≡◌, ℕ, ◌≤◌, Bool, true, false, List, [], ◌∷◌, ◌++◌, length, Some, None, Option}
+use Rattle.rules.specs.declared.request.Granted.TheVariants as granted
 use Rattle.rules.specs.declared.request.Request.{Request}
 use Rattle.rules.specs.declared.request.Request.TheVariants.{Open, Step, Report, Deflect, HangUp, Clear}
-use Rattle.rules.specs.Parts.{Setup, Signal, State}
+use Rattle.rules.specs.Parts.{Answer, Setup, Signal, State}
 use Rattle.rules.specs.Runs.{is_refused, Entry}
 
 -- one or none, as a list
@@ -38,21 +37,21 @@ TakenUnless false q before t = TakenBy q before t
 
 -- a refusal, or that it is done
 abbrev pub Plain : {N : Type 0} → Answer N → Type 0
-Plain (answer.Refused r) = Unit {0}
-Plain (answer.Opened j) = ⊥
-Plain (answer.Stepped o) = ⊥
-Plain answer.Done = Unit {0}
+Plain (Err r) = Unit {0}
+Plain (Ok (granted.Opened j)) = ⊥
+Plain (Ok (granted.Stepped o)) = ⊥
+Plain (Ok granted.Done) = Unit {0}
 
 -- an accepted opening answers the call opened, a step its note if there is one, any other call that it is done
 abbrev pub AnswerTo : {N : Type 0} → Request N → Answer N → Type 0
-AnswerTo (Open c x n service) (answer.Refused r) = Unit {0}
-AnswerTo (Open c x n service) (answer.Opened j) = j ≡ c
-AnswerTo (Open c x n service) (answer.Stepped o) = ⊥
-AnswerTo (Open c x n service) answer.Done = ⊥
-AnswerTo (Step a b) (answer.Refused r) = Unit {0}
-AnswerTo (Step a b) (answer.Opened j) = ⊥
-AnswerTo (Step a b) (answer.Stepped o) = Unit {0}
-AnswerTo (Step a b) answer.Done = ⊥
+AnswerTo (Open c x n service) (Err r) = Unit {0}
+AnswerTo (Open c x n service) (Ok (granted.Opened j)) = j ≡ c
+AnswerTo (Open c x n service) (Ok (granted.Stepped o)) = ⊥
+AnswerTo (Open c x n service) (Ok granted.Done) = ⊥
+AnswerTo (Step a b) (Err r) = Unit {0}
+AnswerTo (Step a b) (Ok (granted.Opened j)) = ⊥
+AnswerTo (Step a b) (Ok (granted.Stepped o)) = Unit {0}
+AnswerTo (Step a b) (Ok granted.Done) = ⊥
 AnswerTo (Report c k ev) a = Plain a
 AnswerTo (Deflect c k n) a = Plain a
 AnswerTo (HangUp c) a = Plain a

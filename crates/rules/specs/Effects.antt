@@ -1,8 +1,7 @@
 -- What happens to one call: when a message reaches an end of one of its legs, when a line reports, when the caller hangs up.
-use Rattle.std.specs.Prelude.{ℕ, zero, suc, Bool, true, false, cond, ◌&&◌, ◌||◌, List, [], ◌∷◌, ◌++◌, Some, None, Option, ◌==◌, nat_lt, slice_set}
+use Rattle.std.specs.Prelude.{is_some, ℕ, zero, suc, Bool, true, false, cond, ◌&&◌, ◌||◌, List, [], ◌∷◌, ◌++◌, Some, None, Option, ◌==◌, nat_lt, slice_set}
 use Rattle.std.specs.List.{slice_get}
-use Rattle.isup.specs.declared.message.Cause.{Cause}
-use Rattle.isup.specs.declared.message.Exchange.{Exchange}
+use Rattle.isup.specs.Ranges.{Cause, Exchange}
 use Rattle.isup.specs.declared.message.LineStatus.TheVariants.{Free}
 use Rattle.isup.specs.declared.message.Message.{Message}
 use Rattle.isup.specs.declared.message.Message.TheVariants as message
@@ -142,11 +141,6 @@ abbrev pub kept_after : {N : Type 0} → Option N → Option (Notice N) → Opti
 kept_after o None = o
 kept_after o (Some n) = Some n.number
 
--- whether there is one
-abbrev pub is_given : {A : Type 0} → Option A → Bool
-is_given None = false
-is_given (Some a) = true
-
 -- the caller may be told of a diversion where the strictest option is 2 or 3
 abbrev pub tells_diversion : Option NotificationOption → Bool
 tells_diversion None = false
@@ -174,7 +168,7 @@ informs_caller c d t =
       note = Some (record {
         call = c;
         kind = note_kind_of t;
-        diverted = is_given (notice_of t) && tells_diversion strictest;
+        diverted = is_some (notice_of t) && tells_diversion strictest;
         shown = cond (shows_number strictest (restriction_of t)) kept None;
       });
     }
@@ -190,12 +184,12 @@ indicates c zero d t = cond d.up (informs_caller c d t) (unchanged d)
 indicates c (suc j) d t = relays c j d t (slice_get d.legs j)
 
 -- What a message does at the end that it comes to. An address counts only at a leg that is sent, and nothing at a far end that has ended
-abbrev pub receives : {N : Type 0} → Setup N → Meaning N → ℕ → ℕ → Call N → Leg N → Arrival N → Effect N
-receives s m c k d l arrival.Ignored = unchanged d
-receives s m c k d l (arrival.Address r) = cond (is_sent l.state) (offers s c k d (offered_with l r) (m.held l.called d.service kind.Unconditional)) (unchanged d)
-receives s m c k d l (arrival.ForwardRelease cause) = cond (is_ended l.state) (unchanged d) (releases_forward c k d l cause)
-receives s m c k d l (arrival.Indicated t) = indicates c k d t
-receives s m c k d l (arrival.BackwardRelease cause) = releases_back c k d cause
+abbrev pub receives : {N : Type 0} → Setup N → Meaning N → ℕ → ℕ → Call N → Leg N → Option (Arrival N) → Effect N
+receives s m c k d l None = unchanged d
+receives s m c k d l (Some (arrival.Address r)) = cond (is_sent l.state) (offers s c k d (offered_with l r) (m.held l.called d.service kind.Unconditional)) (unchanged d)
+receives s m c k d l (Some (arrival.ForwardRelease cause)) = cond (is_ended l.state) (unchanged d) (releases_forward c k d l cause)
+receives s m c k d l (Some (arrival.Indicated t)) = indicates c k d t
+receives s m c k d l (Some (arrival.BackwardRelease cause)) = releases_back c k d cause
 
 -- a signal fits a leg if it goes between its two exchanges, the way that it says
 abbrev pub fits : {N : Type 0} → Signal N → Leg N → Way → Bool
@@ -218,7 +212,7 @@ busy s m c k d l = diverts_or (ends_leg c k d l (release_with 17)) c k d l false
 -- 3: address complete with the line free; a diversion may occur if N or D is active
 abbrev pub alerts : {N : Type 0} → Meaning N → ℕ → ℕ → Call N → Leg N → Effect N
 alerts m c k d l =
-    let may : Bool = is_given (m.held l.called d.service kind.NoReply) || is_given (m.held l.called d.service kind.Deflection) in
+    let may : Bool = is_some (m.held l.called d.service kind.NoReply) || is_some (m.held l.called d.service kind.Deflection) in
     sends_back c k d l Alerting (message.AddressComplete Free (record { may_divert = may; notice = None; restriction = restriction_at m k l.called }))
 
 -- 4: diverted by N, else nothing

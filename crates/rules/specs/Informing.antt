@@ -1,5 +1,5 @@
 -- The laws of the caller: what the caller's end keeps, what a note says, and that none is left out.
-use Rattle.std.specs.Prelude.{◌≡◌, ℕ, max, Bool, true, false, cond, ◌&&◌, ◌||◌, List, Some, None, Option}
+use Rattle.std.specs.Prelude.{is_some, Ok, Err, ◌≡◌, ℕ, max, Bool, true, false, cond, ◌&&◌, ◌||◌, List, Some, None, Option}
 use Rattle.isup.specs.declared.message.Event.TheVariants as progress
 use Rattle.isup.specs.declared.message.LineStatus.TheVariants as status
 use Rattle.isup.specs.declared.message.Message.{Message}
@@ -15,9 +15,8 @@ use Rattle.options.specs.declared.record.NotificationOption.TheVariants.{NotAllo
 use Rattle.rules.specs.declared.note.Note.{Note}
 use Rattle.rules.specs.declared.note.NoteKind.{NoteKind}
 use Rattle.rules.specs.declared.note.NoteKind.TheVariants as note
-use Rattle.rules.specs.declared.request.Answer.{Answer}
-use Rattle.rules.specs.declared.request.Answer.TheVariants as answer
-use Rattle.rules.specs.Parts.{at, Setup, Call, Signal, State}
+use Rattle.rules.specs.declared.request.Granted.TheVariants as granted
+use Rattle.rules.specs.Parts.{Answer, at, Setup, Call, Signal, State}
 use Rattle.rules.specs.Runs.{Entry}
 use Rattle.rules.specs.Laws.{strictness}
 
@@ -87,11 +86,6 @@ may_show None = false
 may_show (Some Allowed) = true
 may_show (Some Restricted) = false
 
--- whether there is one
-abbrev pub is_there : {A : Type 0} → Option A → Bool
-is_there None = false
-is_there (Some a) = true
-
 -- A note comes of a message back on leg 0 that a step takes while the caller is up. The message's own notice counts first
 -- in the strictest option and the number kept. The note says "diverted" exactly when the message has the notice and the
 -- strictest option is then 2 or 3; it shows the number kept exactly when the message says that it may be shown and the
@@ -104,7 +98,7 @@ pub record Noted {N : Type 0} (e : Signal N) (was now : Call N) (n : Note N) : T
   pub kind : note_in e.message ≡ Some n.kind
   pub strictest : strictness now.strictest ≡ max (strictness was.strictest) (notice_strictness (notice_in e.message))
   pub kept : now.kept ≡ number_kept (notice_in e.message) was.kept
-  pub diverted : n.diverted ≡ (is_there (notice_in e.message) && (is_with_number now.strictest || is_without_number now.strictest))
+  pub diverted : n.diverted ≡ (is_some (notice_in e.message) && (is_with_number now.strictest || is_without_number now.strictest))
   pub shown : n.shown ≡ cond (may_show (restriction_in e.message) && is_with_number now.strictest) now.kept None
 
 -- the note of a step is of the message taken, and of what the caller's end of that call kept before and keeps now
@@ -119,19 +113,19 @@ pub record NotedIn {N : Type 0} (before after : List (Option (Call N))) (taken :
 
 -- only a step has a note
 abbrev pub NotedBy : {N : Type 0} → List (Option (Call N)) → List (Option (Call N)) → Option (Signal N) → Answer N → Type 0
-NotedBy before after t (answer.Refused r) = Unit {0}
-NotedBy before after t (answer.Opened c) = Unit {0}
-NotedBy before after t (answer.Stepped None) = Unit {0}
-NotedBy before after t (answer.Stepped (Some n)) = NotedIn before after t n
-NotedBy before after t answer.Done = Unit {0}
+NotedBy before after t (Err r) = Unit {0}
+NotedBy before after t (Ok (granted.Opened c)) = Unit {0}
+NotedBy before after t (Ok (granted.Stepped None)) = Unit {0}
+NotedBy before after t (Ok (granted.Stepped (Some n))) = NotedIn before after t n
+NotedBy before after t (Ok granted.Done) = Unit {0}
 
 -- the answer opens call c, or has a note for its caller
 abbrev pub Concerns : {N : Type 0} → ℕ → Answer N → Type 0
-Concerns c (answer.Refused r) = ⊥
-Concerns c (answer.Opened j) = j ≡ c
-Concerns c (answer.Stepped None) = ⊥
-Concerns c (answer.Stepped (Some n)) = n.call ≡ c
-Concerns c answer.Done = ⊥
+Concerns c (Err r) = ⊥
+Concerns c (Ok (granted.Opened j)) = j ≡ c
+Concerns c (Ok (granted.Stepped None)) = ⊥
+Concerns c (Ok (granted.Stepped (Some n))) = n.call ≡ c
+Concerns c (Ok granted.Done) = ⊥
 
 -- what the caller's end keeps is the same
 abbrev pub SameKept : {N : Type 0} → Call N → Call N → Type 0
@@ -141,20 +135,20 @@ SameKept d f = (f.strictest ≡ d.strictest) × (f.kept ≡ d.kept)
 pub record Informs {N : Type 0} (s : Setup N) (g : State N) (e : Entry N) (h : State N) : Type 0 where
   pub noted : NotedBy g.calls h.calls e.taken e.answer
   pub kept : (c : ℕ) (d f : Call N) → (Concerns c e.answer → ⊥) → at g.calls c ≡ Some d → at h.calls c ≡ Some f → SameKept d f
-  pub opening : (c : ℕ) (f : Call N) → e.answer ≡ answer.Opened c → at h.calls c ≡ Some f → (f.strictest ≡ None) × (f.kept ≡ None)
+  pub opening : (c : ℕ) (f : Call N) → e.answer ≡ Ok (granted.Opened c) → at h.calls c ≡ Some f → (f.strictest ≡ None) × (f.kept ≡ None)
 
 -- No note is left out. Whether an answer has a note
 abbrev pub has_note : {N : Type 0} → Answer N → Bool
-has_note (answer.Refused r) = false
-has_note (answer.Opened c) = false
-has_note (answer.Stepped o) = is_there o
-has_note answer.Done = false
+has_note (Err r) = false
+has_note (Ok (granted.Opened c)) = false
+has_note (Ok (granted.Stepped o)) = is_some o
+has_note (Ok granted.Done) = false
 
 -- a message back on leg 0 that is taken while the caller is up gives a note, if its type gives any
 abbrev pub NotesFor : {N : Type 0} → State N → Option (Signal N) → Answer N → Type 0
 NotesFor g None a = Unit {0}
 NotesFor g (Some e) a =
-    (d : Call _) → at g.calls e.call ≡ Some d → d.up ≡ true → e.leg ≡ 0 → e.way ≡ Back → is_there (note_in e.message) ≡ true → has_note a ≡ true
+    (d : Call _) → at g.calls e.call ≡ Some d → d.up ≡ true → e.leg ≡ 0 → e.way ≡ Back → is_some (note_in e.message) ≡ true → has_note a ≡ true
 
 abbrev pub Notes : {N : Type 0} → Setup N → State N → Entry N → State N → Type 0
 Notes s g e h = NotesFor g e.taken e.answer

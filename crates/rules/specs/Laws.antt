@@ -1,11 +1,10 @@
 -- The laws of diverted initial addresses, of the limit, and of the numbers shown, said of a transcript and the ledger.
-use Rattle.std.specs.Prelude.{◌≡◌, ℕ, suc, ◌<◌, ◌≤◌, max, Bool, true, false, cond, not, ◌&&◌, List, [], ◌∷◌, length, Some, None, Option, nat_lt}
+use Rattle.std.specs.Prelude.{Ok, Err, ◌≡◌, ℕ, suc, ◌<◌, ◌≤◌, max, Bool, true, false, cond, not, ◌&&◌, List, [], ◌∷◌, length, Some, None, Option, nat_lt}
 use Rattle.std.specs.List.{slice_get}
 use Rattle.numbers.specs.declared.number.Party.{Party}
 use Rattle.isup.specs.declared.message.Backward.{Backward}
-use Rattle.isup.specs.declared.message.Count.{Count}
+use Rattle.isup.specs.Ranges.{Count, Exchange}
 use Rattle.isup.specs.declared.message.Event.TheVariants.{Progress}
-use Rattle.isup.specs.declared.message.Exchange.{Exchange}
 use Rattle.isup.specs.declared.message.Indicator.{Indicator}
 use Rattle.isup.specs.declared.message.Indicator.TheVariants as indicator
 use Rattle.isup.specs.declared.message.LineStatus.TheVariants.{NoIndication}
@@ -25,9 +24,8 @@ use Rattle.options.specs.declared.record.NotificationOption.TheVariants.{NotAllo
 use Rattle.rules.specs.declared.note.Note.{Note}
 use Rattle.rules.specs.declared.note.NoteKind.{NoteKind}
 use Rattle.rules.specs.declared.note.NoteKind.TheVariants as note
-use Rattle.rules.specs.declared.request.Answer.{Answer}
-use Rattle.rules.specs.declared.request.Answer.TheVariants as answer
-use Rattle.rules.specs.Parts.{Setup, Signal, State}
+use Rattle.rules.specs.declared.request.Granted.TheVariants as granted
+use Rattle.rules.specs.Parts.{Answer, Setup, Signal, State}
 use Rattle.rules.specs.Ledger.{Link, Account, Ledger, Addition, addition, advance}
 use Rattle.rules.specs.Runs.{is_initial, Entry, entry, observed, Turn, perform}
 
@@ -224,10 +222,10 @@ ShowsIn L t (Some n) = (call_of t ≡ Some n.call) × ShowsAt (L n.call) n.kind 
 
 -- only a step has a note
 abbrev pub ShowsBy : {N : Type 0} → Ledger N → Option (Signal N) → Answer N → Type 0
-ShowsBy L t (answer.Refused r) = Unit {0}
-ShowsBy L t (answer.Opened c) = Unit {0}
-ShowsBy L t (answer.Stepped n) = ShowsIn L t n
-ShowsBy L t answer.Done = Unit {0}
+ShowsBy L t (Err r) = Unit {0}
+ShowsBy L t (Ok (granted.Opened c)) = Unit {0}
+ShowsBy L t (Ok (granted.Stepped n)) = ShowsIn L t n
+ShowsBy L t (Ok granted.Done) = Unit {0}
 
 -- each note shows only what the ledger allows
 abbrev pub Shows : {N : Type 0} → Setup N → Ledger N → Entry N → Type 0

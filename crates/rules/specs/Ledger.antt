@@ -3,7 +3,7 @@
 -- never looks at the records of legs.
 use Rattle.std.specs.Prelude.{ℕ, zero, suc, Bool, true, false, cond, ◌&&◌, List, [], ◌∷◌, ◌++◌, take, Some, None, Option, ◌==◌, nat_lt}
 use Rattle.std.specs.List.{slice_get}
-use Rattle.isup.specs.declared.message.Exchange.{Exchange}
+use Rattle.isup.specs.Ranges.{Exchange}
 use Rattle.isup.specs.declared.message.Service.{Service}
 use Rattle.options.specs.declared.record.Kind.{Kind}
 use Rattle.options.specs.declared.record.Kind.TheVariants as kind

@@ -1,9 +1,8 @@
 -- The messages that are sent along a leg, and what a message is to the end that it comes to.
 use Rattle.std.specs.Prelude.{ℕ, zero, suc, Bool, true, false, cond, not, Some, None, Option}
 use Rattle.numbers.specs.declared.number.Party.{Party}
-use Rattle.isup.specs.Ranges.{cause_of, count_of}
+use Rattle.isup.specs.Ranges.{Exchange, cause_of, count_of}
 use Rattle.isup.specs.declared.message.Backward.{Backward}
-use Rattle.isup.specs.declared.message.Exchange.{Exchange}
 use Rattle.isup.specs.declared.message.Event.{Event}
 use Rattle.isup.specs.declared.message.Event.TheVariants as progress
 use Rattle.isup.specs.declared.message.LineStatus.{LineStatus}
@@ -55,20 +54,20 @@ status_event status.Free = progress.Alerting
 status_event status.NoIndication = progress.Progress
 
 -- addresses and releases forward count at the far end, indications and releases back at the near end; what goes the
--- wrong way for its type does nothing
-abbrev pub arrival_of : {N : Type 0} → Way → Message N → Arrival N
-arrival_of Forward (message.InitialAddress s n r) = arrival.Address r
-arrival_of Forward (message.AddressComplete st b) = arrival.Ignored
-arrival_of Forward (message.CallProgress ev b) = arrival.Ignored
-arrival_of Forward (message.Answer r) = arrival.Ignored
-arrival_of Forward (message.Connect r) = arrival.Ignored
-arrival_of Forward (message.Release c) = arrival.ForwardRelease c
-arrival_of Back (message.InitialAddress s n r) = arrival.Ignored
-arrival_of Back (message.AddressComplete st b) = arrival.Indicated (indication.Progress (status_event st) b)
-arrival_of Back (message.CallProgress ev b) = arrival.Indicated (indication.Progress ev b)
-arrival_of Back (message.Answer r) = arrival.Indicated (indication.Answer r)
-arrival_of Back (message.Connect r) = arrival.Indicated (indication.Answer r)
-arrival_of Back (message.Release c) = arrival.BackwardRelease c
+-- wrong way for its type is no arrival
+abbrev pub arrival_of : {N : Type 0} → Way → Message N → Option (Arrival N)
+arrival_of Forward (message.InitialAddress s n r) = Some (arrival.Address r)
+arrival_of Forward (message.AddressComplete st b) = None
+arrival_of Forward (message.CallProgress ev b) = None
+arrival_of Forward (message.Answer r) = None
+arrival_of Forward (message.Connect r) = None
+arrival_of Forward (message.Release c) = Some (arrival.ForwardRelease c)
+arrival_of Back (message.InitialAddress s n r) = None
+arrival_of Back (message.AddressComplete st b) = Some (arrival.Indicated (indication.Progress (status_event st) b))
+arrival_of Back (message.CallProgress ev b) = Some (arrival.Indicated (indication.Progress ev b))
+arrival_of Back (message.Answer r) = Some (arrival.Indicated (indication.Answer r))
+arrival_of Back (message.Connect r) = Some (arrival.Indicated (indication.Answer r))
+arrival_of Back (message.Release c) = Some (arrival.BackwardRelease c)
 
 -- an indication goes on back as call progress or answer, with its parameters
 abbrev pub relayed : {N : Type 0} → Indication N → Message N

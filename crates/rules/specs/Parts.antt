@@ -1,9 +1,10 @@
 -- What the rules speak of: set-up, stores, calls with their legs, signals, and the state of the network. Numbers are
 -- of any type N: no rule looks into one.
-use Rattle.std.specs.Prelude.{ℕ, Bool, List, [], ◌∷◌, None, Option, ◌==◌, slice_index_or}
+use Rattle.std.specs.Prelude.{Result, ℕ, Bool, List, [], ◌∷◌, None, Option, ◌==◌, slice_index_or}
+use Rattle.numbers.specs.declared.refusal.Refusal.{Refusal}
 use Rattle.isup.specs.Codes.{with_code}
 use Rattle.isup.specs.declared.message.Service.{Service}
-use Rattle.isup.specs.declared.message.Exchange.{Exchange}
+use Rattle.isup.specs.Ranges.{Exchange}
 use Rattle.isup.specs.declared.message.Way.{Way}
 use Rattle.isup.specs.declared.message.Message.{Message}
 use Rattle.isup.specs.declared.message.Envelope.{Envelope}
@@ -13,6 +14,7 @@ use Rattle.options.specs.declared.record.Record.{Record}
 use Rattle.rules.specs.declared.leg.Leg.{Leg}
 use Rattle.rules.specs.declared.leg.LegState.{LegState}
 use Rattle.rules.specs.declared.leg.LegState.TheVariants as state
+use Rattle.rules.specs.declared.request.Granted.{Granted}
 use Rattle.rules.specs.declared.request.LineEvent.{LineEvent}
 use Rattle.rules.specs.declared.request.LineEvent.TheVariants as event
 
@@ -34,6 +36,10 @@ pub record Call (N : Type 0) : Type 0 where
   pub strictest : Option NotificationOption
   pub kept : Option N
   pub legs : List (Leg N)
+
+-- what the network answers: what it granted, or its refusal
+abbrev pub Answer : Type 0 → Type 0
+Answer N = Result (Granted N) Refusal
 
 -- a message on its way, with the call and the leg that its circuit names
 pub record Signal (N : Type 0) : Type 0 where

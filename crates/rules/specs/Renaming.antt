@@ -1,14 +1,14 @@
 -- The law of renaming: two runs that are alike but for the names of numbers give answers that are alike but for the names.
-use Rattle.std.specs.Prelude.{◌≡◌, ℕ, List, [], ◌∷◌, map, Some, None, Option}
+use Rattle.std.specs.Option.{option_map}
+use Rattle.std.specs.Prelude.{Ok, Err, ◌≡◌, ℕ, List, [], ◌∷◌, map}
 use Rattle.isup.specs.declared.message.Service.{Service}
 use Rattle.options.specs.declared.record.Kind.{Kind}
 use Rattle.options.specs.declared.record.Record.{Record}
 use Rattle.rules.specs.declared.note.Note.{Note}
-use Rattle.rules.specs.declared.request.Answer.{Answer}
-use Rattle.rules.specs.declared.request.Answer.TheVariants as answer
+use Rattle.rules.specs.declared.request.Granted.TheVariants as granted
 use Rattle.rules.specs.declared.request.Request.{Request}
 use Rattle.rules.specs.declared.request.Request.TheVariants.{Open, Step, Report, Deflect, HangUp, Clear}
-use Rattle.rules.specs.Parts.{Setup, Meaning}
+use Rattle.rules.specs.Parts.{Answer, Setup, Meaning}
 use Rattle.rules.specs.Runs.{Turn, Entry, runs, just_set_up}
 
 -- a one-to-one renaming of numbers
@@ -17,10 +17,6 @@ pub record OneToOne (N M : Type 0) : Type 0 where
   pub back : M → N
   pub there_back : (y : M) → there (back y) ≡ y
   pub back_there : (x : N) → back (there x) ≡ x
-
-abbrev pub renamed_if : {A B : Type 0} → (A → B) → Option A → Option B
-renamed_if f None = None
-renamed_if f (Some a) = Some (f a)
 
 -- the same request, its number renamed
 abbrev pub renamed_request : {N M : Type 0} → (N → M) → Request N → Request M
@@ -37,18 +33,18 @@ renamed_record f r = record { target = f r.target; option = r.option; may_releas
 
 -- the same note, the number shown renamed
 abbrev pub renamed_note : {N M : Type 0} → (N → M) → Note N → Note M
-renamed_note f n = record { call = n.call; kind = n.kind; diverted = n.diverted; shown = renamed_if f n.shown }
+renamed_note f n = record { call = n.call; kind = n.kind; diverted = n.diverted; shown = option_map f n.shown }
 
 -- the same answer, the number shown renamed
 abbrev pub renamed_answer : {N M : Type 0} → (N → M) → Answer N → Answer M
-renamed_answer f (answer.Refused r) = answer.Refused r
-renamed_answer f (answer.Opened c) = answer.Opened c
-renamed_answer f (answer.Stepped n) = answer.Stepped (renamed_if (renamed_note f) n)
-renamed_answer f answer.Done = answer.Done
+renamed_answer f (Err r) = Err r
+renamed_answer f (Ok (granted.Opened c)) = Ok (granted.Opened c)
+renamed_answer f (Ok (granted.Stepped n)) = Ok (granted.Stepped (option_map (renamed_note f) n))
+renamed_answer f (Ok granted.Done) = Ok granted.Done
 
 -- two stores' records and withheld marks match under a renaming
 pub record Matches {N M : Type 0} (f : N → M) (m : Meaning N) (p : Meaning M) : Type 0 where
-  pub held : (n : N) (service : Service) (w : Kind) → p.held (f n) service w ≡ renamed_if (renamed_record f) (m.held n service w)
+  pub held : (n : N) (service : Service) (w : Kind) → p.held (f n) service w ≡ option_map (renamed_record f) (m.held n service w)
   pub withheld : (n : N) → p.withheld (f n) ≡ m.withheld n
 
 -- two calls of the network match: the same request, renamed, with stores that match

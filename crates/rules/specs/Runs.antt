@@ -1,15 +1,13 @@
 -- Runs: one call of the network carried out, and a whole list of them with its transcript.
-use Rattle.std.specs.Prelude.{ℕ, zero, suc, ◌-◌, Bool, true, false, cond, List, [], ◌∷◌, ◌++◌, length, Some, None, Option, nat_le}
+use Rattle.std.specs.Prelude.{is_err, Ok, Err, ℕ, zero, suc, ◌-◌, Bool, true, false, cond, List, [], ◌∷◌, ◌++◌, length, Some, None, Option, nat_le}
 use Rattle.numbers.specs.declared.refusal.Refusal.{Refusal}
 use Rattle.numbers.specs.declared.refusal.Refusal.TheVariants.{Full}
 use Rattle.isup.specs.declared.message.Message.{Message}
 use Rattle.isup.specs.declared.message.Message.TheVariants as message
-use Rattle.rules.specs.declared.request.Answer.{Answer}
-use Rattle.rules.specs.declared.request.Answer.TheVariants as answer
 use Rattle.rules.specs.declared.request.Request.{Request}
-use Rattle.rules.specs.Parts.{Setup, Meaning, Signal, State}
+use Rattle.rules.specs.Parts.{Answer, Setup, Meaning, Signal, State}
 use Rattle.rules.specs.Ledger.{Taken, Observation}
-use Rattle.rules.specs.Requests.{Done, Decision, refuses, accepts, decide}
+use Rattle.rules.specs.Requests.{Done, Decision, decide}
 
 -- the state after a call of the network, its answer, what was taken and what was sent
 pub record Outcome (N : Type 0) : Type 0 where
@@ -20,7 +18,7 @@ pub record Outcome (N : Type 0) : Type 0 where
 
 -- a refusal changes nothing
 abbrev pub refusal : {N : Type 0} → State N → Refusal → Outcome N
-refusal g r = record { after = g; answer = answer.Refused r; taken = None; sent = [] }
+refusal g r = record { after = g; answer = Err r; taken = None; sent = [] }
 
 -- what is sent waits behind what is left
 abbrev pub outcome : {N : Type 0} → State N → Done N → Outcome N
@@ -28,8 +26,8 @@ outcome g d = record { after = record { calls = d.calls; capacity = g.capacity; 
 
 -- room is judged last: 15 where more would be sent than there are free places, that of the signal taken among them
 abbrev pub settles : {N : Type 0} → State N → Decision N → Outcome N
-settles g (refuses r) = refusal g r
-settles g (accepts d) = cond (nat_le (length d.sent) (g.capacity - length d.left)) (outcome g d) (refusal g Full)
+settles g (Err r) = refusal g r
+settles g (Ok d) = cond (nat_le (length d.sent) (g.capacity - length d.left)) (outcome g d) (refusal g Full)
 
 -- one call of the network
 unfoldable pub perform : {N : Type 0} → Setup N → Meaning N → State N → Request N → Outcome N
@@ -81,10 +79,7 @@ taken_in (Some e) = Some (record { initial = is_initial e.message; call = e.call
 
 -- whether an answer is a refusal
 abbrev pub is_refused : {N : Type 0} → Answer N → Bool
-is_refused (answer.Refused r) = true
-is_refused (answer.Opened c) = false
-is_refused (answer.Stepped n) = false
-is_refused answer.Done = false
+is_refused a = is_err a
 
 abbrev pub observed : {N : Type 0} → Entry N → Observation N
 observed e = record { request = e.request; meaning = e.meaning; refused = is_refused e.answer; taken = taken_in e.taken }
