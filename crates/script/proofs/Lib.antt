@@ -1,5 +1,2 @@
-pub mod Pieces
 pub mod Spelling
-pub mod Reading
-pub mod Tellings
-pub mod Asking
+pub mod CarryingOut

@@ -1,19 +1,16 @@
 -- Octets that are added pair by pair, and word by word.
-use Rattle.std.proofs.Common.{◌≡◌, ℕ, ◌+◌, ◌<◌, ◌≤◌, min, List, [], ◌∷◌, ◌++◌, map, length, get_or, drop, Some, None, Ok, Err, Option, Result, sym, refl, ap, ◌∙◌, append_assoc, append-nil, arith, Bor}
-use Rattle.std.proofs.lemmas.List.{drop_more, drop_all}
+use Rattle.std.proofs.Common.{◌≡◌, ℕ, ◌+◌, ◌<◌, ◌≤◌, min, List, [], ◌∷◌, ◌++◌, map, length, get_or, drop, Some, None, Ok, Err, Option, Result, sym, refl, ap, ◌∙◌, append_assoc, arith, Bor}
+use Rattle.std.proofs.lemmas.List.{drop_more}
 use Rattle.script.specs.declared.line.LineError.{LineError}
 use Rattle.script.specs.declared.line.LineError.TheVariants.{UnknownWord, OctetsMissing, NotOctets, Memory}
 use Rattle.std.specs.Option.{ok_or}
 use Rattle.std.specs.Slice.Iter.{chunks_rest, chunks_size, chunks_steps}
 use Rattle.std.specs.declared.slice.Chunks.{Chunks}
-use Rattle.script.specs.Lines.{Mistake, missing, wrong, Octets, Fails, octets, all_spelt, after, both, before, pairs, pairs_of, octet_of, spelt}
+use Rattle.script.specs.Lines.{Mistake, wrong, Octets, Fails, octets, all_spelt, after, both, before, pairs, pairs_of, octet_of, spelt}
 
 pub after_after : (xs ys : List ℕ) (o : Octets) → after xs (after ys o) ≡ after (xs ++ ys) o
 after_after xs ys (Ok octets) = ap Ok (sym (append_assoc xs ys octets))
 after_after xs ys (Err e) = refl
-
-pub after_none : (xs : List ℕ) → after xs (Ok []) ≡ Ok xs
-after_none xs = ap Ok (append-nil xs)
 
 pub after_both : (xs : List ℕ) (front more : Octets) → after xs (both front more) ≡ both (after xs front) more
 after_both xs (Ok octets) more = after_after xs octets more
@@ -37,22 +34,12 @@ module _ (word items : List ℕ) where
   stops (c ∷ d ∷ []) more long some is = rw is
   stops (c ∷ d ∷ e ∷ pair) more long some is = absurd (omega arith)
 
-  no_digits : (left : List ℕ) → length left ≡ 0 → after items (pairs_of word left) ≡ Ok items
-  no_digits [] none = after_none items
-  no_digits (c ∷ left) none = absurd (omega arith)
-
 -- the octets added, and those of the digits left, are those of the word, added to what was there at the start
 pub record Sofar (word start items : List ℕ) (left : Chunks ℕ) : Type 0 where
   pub two : chunks_size left ≡ 2
   pub sofar : after items (pairs_of word (chunks_rest left)) ≡ after start (spelt word)
 
-pub starts : (word items : List ℕ) (left : Chunks ℕ) → chunks_size left ≡ 2 → chunks_rest left ≡ word → Sofar word items items left
-starts word items left two all = record { two = two; sofar = ap (λ l. after items (pairs_of word l)) all }
-
 module _ {word start items : List ℕ} {left : Chunks ℕ} (old : Sofar word start items left) (more : Chunks ℕ) where
-  pub done : chunks_steps left None more → after start (spelt word) ≡ Ok items
-  done step = sym old.sofar ∙ no_digits word items (chunks_rest left) step.1.0
-
   module _ (x : Bor (List ℕ)) (step : chunks_steps left (Some x) more) where
     long : length x.now ≡ min 2 (length (x.now ++ chunks_rest more))
     long = rw (old.two, step.1.0) at step.1.1
@@ -72,25 +59,7 @@ module _ {word start items : List ℕ} {left : Chunks ℕ} (old : Sofar word sta
 pub record Words (words : List (Bor (List ℕ))) (items : List ℕ) (i : ℕ) : Type 0 where
   pub words_sofar : after items (all_spelt (map (λ w. w.now) (drop i words))) ≡ octets (map (λ w. w.now) words)
 
-some_words : (words : List (Bor (List ℕ))) → (length words ≡ 0 → ⊥) → octets (map (λ w. w.now) words) ≡ all_spelt (map (λ w. w.now) words)
-some_words [] some = absurd (some refl)
-some_words (w ∷ words) some = refl
-
-after_nothing : (o : Octets) → after [] o ≡ o
-after_nothing (Ok xs) = refl
-after_nothing (Err e) = refl
-
-pub no_words : (words : List (Bor (List ℕ))) → length words ≡ 0 → octets (map (λ w. w.now) words) ≡ Err missing
-no_words [] none = refl
-no_words (w ∷ words) none = absurd (omega arith)
-
 module _ (words : List (Bor (List ℕ))) where
-  pub words_start : (items : List ℕ) → items ≡ [] → (length words ≡ 0 → ⊥) → Words words items 0
-  words_start items none some = record { words_sofar = rw none (after_nothing _ ∙ sym (some_words words some)) }
-
-  pub all_words : (items : List ℕ) (i : ℕ) → Words words items i → length words ≤ i → octets (map (λ w. w.now) words) ≡ Ok items
-  all_words items i old end = sym (rw (drop_all i words end) at old.words_sofar) ∙ after_none items
-
   module _ (items : List ℕ) (i : ℕ) (d : Bor (List ℕ)) (old : Words words items i) where
     turn : i < length words → both (after items (spelt (get_or words i d).now)) (all_spelt (map (λ w. w.now) (drop (i + 1) words))) ≡ octets (map (λ w. w.now) words)
     turn inside = sym (after_both items (spelt (get_or words i d).now) _) ∙ rw (drop_more words i d inside) at old.words_sofar

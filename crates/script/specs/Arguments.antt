@@ -18,11 +18,13 @@ pub data Request : Type 0 where
 abbrev pub one_argument : List ℕ → Request
 one_argument word = cond (same_text word (codes "--help")) help (cond (slice_index word 0 == 45) (unknown_option word) (file word))
 
+-- no argument asks for standard input; one may be asked; more are too many
 abbrev pub request : List (List ℕ) → Request
 request [] = input
 request (word ∷ []) = one_argument word
 request (word ∷ other ∷ more) = too_many
 
+-- what the code answers, by the octets of its texts
 abbrev pub requested : Result Source ArgumentError → Request
 requested (Ok from.Help) = help
 requested (Ok from.Input) = input
@@ -30,6 +32,7 @@ requested (Ok (from.File name)) = file name.now
 requested (Err (wrong.UnknownOption word)) = unknown_option word.now
 requested (Err wrong.TooMany) = too_many
 
+-- why arguments ask for nothing
 abbrev pub argument_text : ArgumentError → List ℕ
 argument_text (wrong.UnknownOption word) = codes "unknown option " ++ word.now
 argument_text wrong.TooMany = codes "more than one argument"

@@ -2,70 +2,75 @@
 use Rattle.std.specs.Prelude.{ℕ, ◌+◌, ◌-◌, ◌^◌, min, List, [], ◌∷◌, ◌++◌, Some, None, Ok, Err, string_bytes, codes, decimal, Option, Result}
 use Rattle.script.specs.declared.answer.Answer.{Answer}
 use Rattle.script.specs.declared.report.LineCounts.{LineCounts}
-use Rattle.script.specs.declared.transcript.Reply.{Reply}
-use Rattle.script.specs.declared.transcript.Reply.TheVariants as reply
 use Rattle.script.specs.declared.transcript.Transcript.{Transcript}
 use Rattle.script.specs.Answers.{answer, answer_text}
 use Rattle.script.specs.Lines.{Asked, Mistake, meaning}
 use Rattle.script.specs.Texts.{mistake_text, no_lines, report_of, report_text}
 use Rattle.script.specs.Words.{newline, lines}
 
+-- what a line answers, if it asks for anything, or why it is none of the script's
+abbrev pub reply : Result Asked Mistake → Result (Option Answer) Mistake
+reply (Ok asked) = Ok (answer asked)
+reply (Err mistake) = Err mistake
+
 -- what is written for a line: nothing, an answer, or why it is none of the script's
-pub data Said : Type 0 where
-  silent : Said
-  answered : List ℕ → Said
-  mistaken : List ℕ → Said
+pub data Output : Type 0 where
+  silent : Output
+  answered : List ℕ → Output
+  mistaken : List ℕ → Output
 
-abbrev pub said : Reply → Said
-said reply.Nothing = silent
-said (reply.Answer text) = answered (string_bytes text)
-said (reply.Error text) = mistaken (string_bytes text)
-
-abbrev pub answer_line : ℕ → Option Answer → Said
+-- an answer stands behind the number of its line
+abbrev pub answer_line : ℕ → Option Answer → Output
 answer_line n None = silent
 answer_line n (Some a) = answered (decimal n ++ (codes ": " ++ (answer_text a ++ (newline ∷ []))))
 
-abbrev pub error_line : ℕ → List ℕ → Said
+-- so does why a line is none of the script's
+abbrev pub error_line : ℕ → List ℕ → Output
 error_line n why = mistaken (decimal n ++ (codes ": error " ++ (why ++ (newline ∷ []))))
 
-abbrev pub reply_to : ℕ → Result Asked Mistake → Said
-reply_to n (Ok asked) = answer_line n (answer asked)
-reply_to n (Err mistake) = error_line n (mistake_text mistake)
+-- what is written for line number n
+abbrev pub output_of : ℕ → Result Asked Mistake → Output
+output_of n (Ok asked) = answer_line n (answer asked)
+output_of n (Err mistake) = error_line n (mistake_text mistake)
 
 -- one more; a count stays at the largest that it can be
 abbrev pub more : ℕ → ℕ
 more n = min (n + 1) (2 ^ 64 - 1)
 
 -- what was written so far, and the count of lines
-pub record Told : Type 0 where
+pub record State : Type 0 where
   pub text : List ℕ
   pub lines_counted : LineCounts
 
-abbrev pub told_by : Transcript → Told
-told_by t = record { text = string_bytes t.text; lines_counted = t.lines }
+-- what a transcript has so far
+abbrev pub state_of : Transcript → State
+state_of t = record { text = string_bytes t.text; lines_counted = t.lines }
 
-abbrev pub adding : Said → Told → Told
-adding silent t = t
-adding (answered text) t = record {
-  text = t.text ++ text;
-  lines_counted = record { carried_out = more t.lines_counted.carried_out; refused = t.lines_counted.refused; errors = t.lines_counted.errors };
+-- the output of a line is added, and the line counted
+abbrev pub adding : Output → State → State
+adding silent s = s
+adding (answered text) s = record {
+  text = s.text ++ text;
+  lines_counted = record { carried_out = more s.lines_counted.carried_out; refused = s.lines_counted.refused; errors = s.lines_counted.errors };
 }
-adding (mistaken text) t = record {
-  text = t.text ++ text;
-  lines_counted = record { carried_out = t.lines_counted.carried_out; refused = t.lines_counted.refused; errors = more t.lines_counted.errors };
+adding (mistaken text) s = record {
+  text = s.text ++ text;
+  lines_counted = record { carried_out = s.lines_counted.carried_out; refused = s.lines_counted.refused; errors = more s.lines_counted.errors };
 }
 
 -- the lines from number n on
-abbrev pub telling : ℕ → List (List ℕ) → Told → Told
-telling n [] t = t
-telling n (line ∷ rest) t = telling (more n) rest (adding (reply_to n (meaning line)) t)
+abbrev pub carry_out : ℕ → List (List ℕ) → State → State
+carry_out n [] s = s
+carry_out n (line ∷ rest) s = carry_out (more n) rest (adding (output_of n (meaning line)) s)
 
-abbrev pub untold : Told
-untold = record { text = []; lines_counted = no_lines }
+-- before the first line
+abbrev pub first_state : State
+first_state = record { text = []; lines_counted = no_lines }
 
--- the whole script, whose first line is number 1
-abbrev pub told_of : List ℕ → Told
-told_of script = telling 1 (lines script) untold
+-- after the whole script, whose first line is number 1
+abbrev pub final_state : List ℕ → State
+final_state script = carry_out 1 (lines script) first_state
 
+-- what was written for the lines, then the report
 abbrev pub transcript : List ℕ → List ℕ
-transcript script = (told_of script).text ++ (report_text (report_of (told_of script).lines_counted) ++ (newline ∷ []))
+transcript script = (final_state script).text ++ (report_text (report_of (final_state script).lines_counted) ++ (newline ∷ []))

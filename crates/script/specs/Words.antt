@@ -1,33 +1,23 @@
 -- A text cut at a byte, and its words: its longest runs without a space.
-use Rattle.std.specs.Prelude.{ℕ, cond, List, [], ◌∷◌, ◌==◌}
+use Rattle.std.specs.Prelude.{ℕ, List, filter, length, not, ◌==◌}
+use Rattle.std.specs.List.{slice_split}
 
+-- a line feed
 abbrev pub newline : ℕ
 newline = 10
 
+-- a space
 abbrev pub space : ℕ
 space = 32
 
--- b stands before the first of the pieces
-abbrev pub led : ℕ → List (List ℕ) → List (List ℕ)
-led b [] = (b ∷ []) ∷ []
-led b (piece ∷ more) = (b ∷ piece) ∷ more
-
 -- what stands before, between and after the bytes c of a text, empty pieces too
 abbrev pub pieces : ℕ → List ℕ → List (List ℕ)
-pieces c [] = [] ∷ []
-pieces c (b ∷ rest) = cond (b == c) ([] ∷ pieces c rest) (led b (pieces c rest))
+pieces c text = slice_split (λ b. b == c) text
 
--- the piece before the others, unless it is empty
-abbrev pub kept : List ℕ → List (List ℕ) → List (List ℕ)
-kept [] more = more
-kept (b ∷ piece) more = (b ∷ piece) ∷ more
-
-abbrev pub filled : List (List ℕ) → List (List ℕ)
-filled [] = []
-filled (piece ∷ more) = kept piece (filled more)
-
+-- the pieces between spaces that are not empty
 abbrev pub words : List ℕ → List (List ℕ)
-words text = filled (pieces space text)
+words text = filter (λ piece. not (length piece == 0)) (pieces space text)
 
+-- the pieces between line feeds
 abbrev pub lines : List ℕ → List (List ℕ)
 lines text = pieces newline text

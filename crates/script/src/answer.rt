@@ -4,7 +4,7 @@ ghost use Rattle.script.specs.Lines.{asked};
 ghost use Rattle.std.specs.Prelude.{◌≡◌, Some};
 
 use crate::display::{OnCircuit, Text};
-use crate::line::Line;
+use crate::line::Command;
 use decode::fault::MessageFault;
 use decode::reading::read;
 use isup::message::{Circuit, Message};
@@ -17,23 +17,22 @@ type NumberRead = Result<(Party<Number>, usize), NumberFault>;
 type MessageRead = Result<(Circuit, Message), MessageFault>;
 
 // What was read, or its fault.
-#[derive(Clone, Copy)]
+#[derive(Clone, Copy, Debug, PartialEq, Eq)]
 pub enum Answer {
     Number(NumberRead),
     Message(MessageRead),
 }
 
-// What a line answers, if it asks for anything.
-pub fn answer_to(line: &Line) -> Option<Answer>
-    ensures { result ≡ answer_of (asked line.now) }
+// What a command answers.
+pub fn answer_to(command: &Command) -> Answer
+    ensures { Some result ≡ answer_of (asked (Some command.now)) }
 {
-    match line {
-        Line::Nothing => None,
-        Line::Number {
+    match command {
+        Command::Number {
             octets,
             may_restrict,
-        } => Some(Answer::Number(read_number(octets.as_slice(), *may_restrict))),
-        Line::Read { octets } => Some(Answer::Message(read(octets.as_slice()))),
+        } => Answer::Number(read_number(octets.as_slice(), *may_restrict)),
+        Command::Read { octets } => Answer::Message(read(octets.as_slice())),
     }
 }
 
@@ -42,18 +41,11 @@ impl fmt::Display for Text<NumberRead> {
 
     fn fmt<W: fmt::Write>(&self, f: &mut fmt::Formatter<W>) -> fmt::Result {
         match self.0 {
-            Ok(read) => {
-                let (party, used) = read;
-                let digits = Text(party.number);
-                if party.restricted {
-                    return write!(f, "number {digits} used {used} restricted");
-                }
-                write!(f, "number {digits} used {used}")
+            Ok((party, used)) => {
+                let mark = if party.restricted { " restricted" } else { "" };
+                write!(f, "number {} used {used}{mark}", Text(party.number))
             }
-            Err(fault) => {
-                let number = fault.number();
-                write!(f, "fault {number}")
-            }
+            Err(fault) => write!(f, "fault {}", fault.number()),
         }
     }
 }
@@ -65,8 +57,7 @@ impl fmt::Display for Text<Option<NumberFault>> {
         let Some(fault) = self.0 else {
             return Ok(());
         };
-        let number = fault.number();
-        write!(f, " number {number}")
+        write!(f, " number {}", fault.number())
     }
 }
 
@@ -75,17 +66,14 @@ impl fmt::Display for Text<MessageRead> {
 
     fn fmt<W: fmt::Write>(&self, f: &mut fmt::Formatter<W>) -> fmt::Result {
         match self.0 {
-            Ok(read) => {
-                let (circuit, message) = read;
-                let message = OnCircuit { circuit, message };
-                write!(f, "{message}")
-            }
-            Err(fault) => {
-                let number = fault.number();
-                let place = fault.place();
-                let within = Text(fault.within());
-                write!(f, "fault {number} at {place}{within}")
-            }
+            Ok((circuit, message)) => OnCircuit { circuit, message }.fmt(f),
+            Err(fault) => write!(
+                f,
+                "fault {} at {}{}",
+                fault.number(),
+                fault.place(),
+                Text(fault.within())
+            ),
         }
     }
 }
@@ -95,14 +83,8 @@ impl fmt::Display for Answer {
 
     fn fmt<W: fmt::Write>(&self, f: &mut fmt::Formatter<W>) -> fmt::Result {
         match self {
-            Answer::Number(read) => {
-                let text = Text(*read);
-                write!(f, "{text}")
-            }
-            Answer::Message(read) => {
-                let text = Text(*read);
-                write!(f, "{text}")
-            }
+            Answer::Number(read) => Text(*read).fmt(f),
+            Answer::Message(read) => Text(*read).fmt(f),
         }
     }
 }

@@ -5,26 +5,27 @@ ghost use Rattle.std.specs.Prelude.{◌≡◌, map, Some, string_bytes};
 use std::fmt;
 
 // Where a script is to come from, if one is to be carried out.
-#[derive(Clone, Copy)]
+#[derive(Clone, Copy, Debug, PartialEq, Eq)]
 pub enum Source<'a> {
     Help,
     Input,
     File(&'a str),
 }
 
-#[derive(Clone, Copy)]
+#[derive(Clone, Copy, Debug, PartialEq, Eq)]
 pub enum ArgumentError<'a> {
     UnknownOption(&'a str),
     TooMany,
 }
 
+// A derived Display would say nothing of the text.
 impl fmt::Display for ArgumentError<'_> {
     ghost output = { λ e. Some (argument_text e) };
 
     fn fmt<W: fmt::Write>(&self, f: &mut fmt::Formatter<W>) -> fmt::Result {
-        match self {
+        match *self {
             ArgumentError::UnknownOption(word) => write!(f, "unknown option {word}"),
-            ArgumentError::TooMany => write!(f, "more than one argument"),
+            ArgumentError::TooMany => f.write_str("more than one argument"),
         }
     }
 }

@@ -9,7 +9,8 @@ use isup::message::{
 use numbers::number::{Number, Party};
 use std::fmt;
 
-// A value of another crate that is to be written.
+// A value of another crate that is to be written. A trait's impl stands in the crate of the trait or of the type, and the
+// words are the script's, so the value is wrapped.
 #[derive(Clone, Copy)]
 pub(crate) struct Text<T>(pub T);
 
@@ -28,11 +29,9 @@ impl fmt::Display for Text<Party<Number>> {
     ghost output = { λ t. Some (party_text t.0) };
 
     fn fmt<W: fmt::Write>(&self, f: &mut fmt::Formatter<W>) -> fmt::Result {
-        let number = Text(self.0.number);
-        if self.0.restricted {
-            return write!(f, "{number} restricted");
-        }
-        write!(f, "{number}")
+        let Party { number, restricted } = self.0;
+        let mark = if restricted { " restricted" } else { "" };
+        write!(f, "{}{mark}", Text(number))
     }
 }
 
@@ -40,11 +39,11 @@ impl fmt::Display for Text<Service> {
     ghost output = { λ t. Some (service_text t.0) };
 
     fn fmt<W: fmt::Write>(&self, f: &mut fmt::Formatter<W>) -> fmt::Result {
-        match self.0 {
-            Service::Speech => write!(f, "speech"),
-            Service::Digital64 => write!(f, "64k"),
-            Service::Audio => write!(f, "audio"),
-        }
+        f.write_str(match self.0 {
+            Service::Speech => "speech",
+            Service::Digital64 => "64k",
+            Service::Audio => "audio",
+        })
     }
 }
 
@@ -52,10 +51,10 @@ impl fmt::Display for Text<LineStatus> {
     ghost output = { λ t. Some (status_text t.0) };
 
     fn fmt<W: fmt::Write>(&self, f: &mut fmt::Formatter<W>) -> fmt::Result {
-        match self.0 {
-            LineStatus::Free => write!(f, "free"),
-            LineStatus::NoIndication => write!(f, "none"),
-        }
+        f.write_str(match self.0 {
+            LineStatus::Free => "free",
+            LineStatus::NoIndication => "none",
+        })
     }
 }
 
@@ -63,10 +62,10 @@ impl fmt::Display for Text<Event> {
     ghost output = { λ t. Some (event_text t.0) };
 
     fn fmt<W: fmt::Write>(&self, f: &mut fmt::Formatter<W>) -> fmt::Result {
-        match self.0 {
-            Event::Alerting => write!(f, "alerting"),
-            Event::Progress => write!(f, "progress"),
-        }
+        f.write_str(match self.0 {
+            Event::Alerting => "alerting",
+            Event::Progress => "progress",
+        })
     }
 }
 
@@ -74,13 +73,17 @@ impl fmt::Display for Text<RedirectionInformation> {
     ghost output = { λ t. Some (information_text t.0) };
 
     fn fmt<W: fmt::Write>(&self, f: &mut fmt::Formatter<W>) -> fmt::Result {
-        let indicator = self.0.indicator.code();
-        let count = self.0.count.value();
-        let reason = self.0.reason.code();
-        write!(f, "indicator {indicator} count {count} reason {reason}")
+        write!(
+            f,
+            "indicator {} count {} reason {}",
+            u8::from(self.0.indicator),
+            self.0.count.value(),
+            u8::from(self.0.reason)
+        )
     }
 }
 
+// Nothing is written of none. A wrapper of any option would take three lines from here, and add a `map` at each use.
 impl fmt::Display for Text<Option<Redirection<Number>>> {
     ghost output = { λ t. Some (redirection_text t.0) };
 
@@ -88,12 +91,12 @@ impl fmt::Display for Text<Option<Redirection<Number>>> {
         let Some(redirection) = self.0 else {
             return Ok(());
         };
-        let redirecting = Text(redirection.redirecting);
-        let original = Text(redirection.original);
-        let information = Text(redirection.information);
         write!(
             f,
-            " redirecting {redirecting} original {original} {information}"
+            " redirecting {} original {} {}",
+            Text(redirection.redirecting),
+            Text(redirection.original),
+            Text(redirection.information)
         )
     }
 }
@@ -105,10 +108,13 @@ impl fmt::Display for Text<Option<Notice<Number>>> {
         let Some(notice) = self.0 else {
             return Ok(());
         };
-        let option = notice.information.notification.code();
-        let reason = notice.information.reason.code();
-        let number = Text(notice.number);
-        write!(f, " notice option {option} reason {reason} number {number}")
+        write!(
+            f,
+            " notice option {} reason {} number {}",
+            u8::from(notice.information.notification),
+            u8::from(notice.information.reason),
+            Text(notice.number)
+        )
     }
 }
 
@@ -116,13 +122,11 @@ impl fmt::Display for Text<Option<Restriction>> {
     ghost output = { λ t. Some (restriction_text t.0) };
 
     fn fmt<W: fmt::Write>(&self, f: &mut fmt::Formatter<W>) -> fmt::Result {
-        let Some(restriction) = self.0 else {
-            return Ok(());
-        };
-        match restriction {
-            Restriction::Allowed => write!(f, " number-shown"),
-            Restriction::Restricted => write!(f, " number-restricted"),
-        }
+        f.write_str(match self.0 {
+            None => "",
+            Some(Restriction::Allowed) => " number-shown",
+            Some(Restriction::Restricted) => " number-restricted",
+        })
     }
 }
 
@@ -130,12 +134,13 @@ impl fmt::Display for Text<Backward<Number>> {
     ghost output = { λ t. Some (backward_text t.0) };
 
     fn fmt<W: fmt::Write>(&self, f: &mut fmt::Formatter<W>) -> fmt::Result {
-        let notice = Text(self.0.notice);
-        let restriction = Text(self.0.restriction);
-        if self.0.may_divert {
-            return write!(f, " may-divert{notice}{restriction}");
-        }
-        write!(f, "{notice}{restriction}")
+        let mark = if self.0.may_divert { " may-divert" } else { "" };
+        write!(
+            f,
+            "{mark}{}{}",
+            Text(self.0.notice),
+            Text(self.0.restriction)
+        )
     }
 }
 
@@ -143,9 +148,7 @@ impl fmt::Display for Text<Circuit> {
     ghost output = { λ t. Some (circuit_text t.0) };
 
     fn fmt<W: fmt::Write>(&self, f: &mut fmt::Formatter<W>) -> fmt::Result {
-        let call = self.0.call();
-        let leg = self.0.leg();
-        write!(f, "call {call} leg {leg}")
+        write!(f, "call {} leg {}", self.0.call(), self.0.leg())
     }
 }
 
@@ -162,37 +165,22 @@ impl fmt::Display for OnCircuit {
     fn fmt<W: fmt::Write>(&self, f: &mut fmt::Formatter<W>) -> fmt::Result {
         let on = Text(self.circuit);
         match self.message {
-            Message::InitialAddress(service, called, redirection) => {
-                let service = Text(service);
-                let called = Text(called);
-                let redirection = Text(redirection);
-                write!(
-                    f,
-                    "message IAM {on} service {service} called {called}{redirection}"
-                )
-            }
+            Message::InitialAddress(service, called, redirection) => write!(
+                f,
+                "message IAM {on} service {} called {}{}",
+                Text(service),
+                Text(called),
+                Text(redirection)
+            ),
             Message::AddressComplete(status, backward) => {
-                let status = Text(status);
-                let backward = Text(backward);
-                write!(f, "message ACM {on} {status}{backward}")
+                write!(f, "message ACM {on} {}{}", Text(status), Text(backward))
             }
             Message::CallProgress(event, backward) => {
-                let event = Text(event);
-                let backward = Text(backward);
-                write!(f, "message CPG {on} {event}{backward}")
+                write!(f, "message CPG {on} {}{}", Text(event), Text(backward))
             }
-            Message::Answer(restriction) => {
-                let restriction = Text(restriction);
-                write!(f, "message ANM {on}{restriction}")
-            }
-            Message::Connect(restriction) => {
-                let restriction = Text(restriction);
-                write!(f, "message CON {on}{restriction}")
-            }
-            Message::Release(cause) => {
-                let cause = cause.value();
-                write!(f, "message REL {on} cause {cause}")
-            }
+            Message::Answer(restriction) => write!(f, "message ANM {on}{}", Text(restriction)),
+            Message::Connect(restriction) => write!(f, "message CON {on}{}", Text(restriction)),
+            Message::Release(cause) => write!(f, "message REL {on} cause {}", cause.value()),
         }
     }
 }

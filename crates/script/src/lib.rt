@@ -12,8 +12,8 @@ mod words;
 
 pub use answer::{Answer, answer_to};
 pub use arguments::{ArgumentError, Source, source_of};
-pub use line::{Line, LineError, parse};
-pub use program::{USAGE, run};
+pub use line::{Command, LineError, parse};
+pub use program::{USAGE, run, run_input};
 pub use report::LineCounts;
-pub use transcript::{Reply, Transcript, rehearse, reply_to};
+pub use transcript::{Transcript, rehearse, reply_to};
 pub use words::octets;

@@ -1,5 +1,5 @@
 // One line of a script.
-ghost use Rattle.script.specs.Lines.{Gives, asked, asking, command as command_of, meaning, number, octets as octets_of, read};
+ghost use Rattle.script.specs.Lines.{Gives, asked, command, meaning};
 ghost use Rattle.script.specs.Texts.{error_text};
 ghost use Rattle.std.specs.Prelude.{◌≡◌, map, Some};
 ghost use Rattle.script.specs.declared.line.LineError.TheVariants.{Memory as memory};
@@ -9,18 +9,16 @@ use std::alloc::{AllocError, AllocFailed, Global};
 use std::fmt;
 
 // What a line asks for.
-#[derive(Debug, Drop)]
-pub enum Line {
-    // a blank line or a remark
-    Nothing,
-    // read a number's content, where the mark of a restricted presentation may be allowed
+#[derive(Debug, PartialEq, Eq, Drop)]
+pub enum Command {
+    // read a number's content; whether it may be restricted is a bool, as the reader of numbers takes it
     Number { octets: Vec<u8>, may_restrict: bool },
     // read a message
     Read { octets: Vec<u8> },
 }
 
 // Why a line is none of the script's.
-#[derive(Clone, Copy, Debug)]
+#[derive(Clone, Copy, Debug, PartialEq, Eq)]
 pub enum LineError<'a> {
     UnknownWord(&'a str),
     OctetsMissing,
@@ -28,22 +26,24 @@ pub enum LineError<'a> {
     Memory,
 }
 
+// A derived Display would say nothing of the text, which the transcript's contract needs.
 impl fmt::Display for LineError<'_> {
     ghost output = { λ e. Some (error_text e) };
 
     fn fmt<W: fmt::Write>(&self, f: &mut fmt::Formatter<W>) -> fmt::Result {
-        match self {
+        match *self {
             LineError::UnknownWord(word) => write!(f, "unknown word {word}"),
-            LineError::OctetsMissing => write!(f, "octets missing"),
+            LineError::OctetsMissing => f.write_str("octets missing"),
             LineError::NotOctets(word) => write!(
                 f,
                 "octets are pairs of hexadecimal digits: {word}"
             ),
-            LineError::Memory => write!(f, "memory is wanting"),
+            LineError::Memory => f.write_str("memory is wanting"),
         }
     }
 }
 
+// Collecting the words fails with the one error of memory, pushing an octet with the other.
 impl From<AllocError> for LineError<'_> {
     ghost from_gives = { λ _ r. r ≡ memory };
 
@@ -60,51 +60,36 @@ impl<T: Drop> From<AllocFailed<T>> for LineError<'_> {
     }
 }
 
-// A line that reads a number's content.
-fn number_line<'a>(
-    heap: Global,
-    more: &[&'a str],
-    may_restrict: bool,
-) -> Result<Line, LineError<'a>>
-    ensures { Gives asked result (asking (number may_restrict) (octets_of (map (λ w. w.now) more.now))) }
-{
-    let octets = octets(heap, more)?;
-    Ok(Line::Number {
-        octets,
-        may_restrict,
-    })
-}
-
-// A line that reads a message.
-fn read_line<'a>(heap: Global, more: &[&'a str]) -> Result<Line, LineError<'a>>
-    ensures { Gives asked result (asking read (octets_of (map (λ w. w.now) more.now))) }
-{
-    let octets = octets(heap, more)?;
-    Ok(Line::Read { octets })
-}
-
 // What a line with words asks for.
-fn command<'a>(heap: Global, first: &'a str, more: &[&'a str]) -> Result<Line, LineError<'a>>
-    ensures { Gives asked result (command_of first.now (map (λ w. w.now) more.now)) }
+fn command_of<'a>(heap: Global, first: &'a str, more: &[&'a str]) -> Result<Command, LineError<'a>>
+    ensures { Gives (λ c. asked (Some c)) result (command first.now (map (λ w. w.now) more.now)) }
 {
     match first {
-        "number" => number_line(heap, more, false),
-        "number14" => number_line(heap, more, true),
-        "read" => read_line(heap, more),
+        "number" => Ok(Command::Number {
+            octets: octets(heap, more)?,
+            may_restrict: false,
+        }),
+        "number14" => Ok(Command::Number {
+            octets: octets(heap, more)?,
+            may_restrict: true,
+        }),
+        "read" => Ok(Command::Read {
+            octets: octets(heap, more)?,
+        }),
         _ => Err(LineError::UnknownWord(first)),
     }
 }
 
-// What a line asks for. A line that begins with '#' is a remark.
-pub fn parse<'a>(heap: Global, line: &'a str) -> Result<Line, LineError<'a>>
+// What a line asks for, if it is neither blank nor a remark, which begins with '#'.
+pub fn parse<'a>(heap: Global, line: &'a str) -> Result<Option<Command>, LineError<'a>>
     ensures { Gives asked result (meaning line.now) }
 {
     if line.starts_with('#') {
-        return Ok(Line::Nothing);
+        return Ok(None);
     }
     let words = words(heap, line)?;
     match words.as_slice() {
-        [] => Ok(Line::Nothing),
-        [first, more @ ..] => command(heap, first, more),
+        [] => Ok(None),
+        [first, more @ ..] => command_of(heap, first, more).map(Some),
     }
 }

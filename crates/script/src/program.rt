@@ -1,9 +1,10 @@
 // What the programs over scripts share.
-ghost use Rattle.script.specs.Transcripts.{told_of};
+ghost use Rattle.script.specs.Transcripts.{final_state};
 ghost use Rattle.std.specs.Prelude.{◌≡◌, IsUtf8, OnOk};
 
 use crate::transcript::{Transcript, rehearse};
 use anyhow::anyhow;
+use std::io::Read;
 
 pub const USAGE: &str = "usage: rehearse [FILE]
 
@@ -19,7 +20,7 @@ OCTETS are pairs of hexadecimal digits, in one word or several.
 
 // Carries out a script and writes what it answers. It fails where a line was none of the script's.
 pub fn run(rt: &HostRuntime, script: &[u8]) -> anyhow::Result<()>
-    ensures { OnOk result (IsUtf8 script.now → (told_of script.now).lines_counted.errors ≡ 0) }
+    ensures { OnOk result (IsUtf8 script.now → (final_state script.now).lines_counted.errors ≡ 0) }
 {
     let heap = rt.alloc();
     let script = String::from_utf8_lossy(heap, script)?;
@@ -29,4 +30,11 @@ pub fn run(rt: &HostRuntime, script: &[u8]) -> anyhow::Result<()>
         return Err(anyhow!("a line is none of the script's"));
     }
     Ok(())
+}
+
+// Carries out the script on standard input. No clause can say what is read there.
+pub fn run_input(rt: &HostRuntime) -> anyhow::Result<()> {
+    let mut script = Vec::new(rt.alloc());
+    rt.stdin().read_to_end(&mut script)?;
+    run(rt, script.as_slice())
 }

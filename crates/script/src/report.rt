@@ -1,11 +1,11 @@
 // The report at the end of a script.
-ghost use Rattle.script.specs.Texts.{calls_text, lines_text, no_lines, report_of, report_text};
+ghost use Rattle.script.specs.Texts.{calls_text, lines_text, report_of, report_text};
 ghost use Rattle.std.specs.Prelude.{◌≡◌, Some};
 
 use std::fmt;
 
 // How many lines were carried out, how many of these were refused, and how many lines were none of the script's.
-#[derive(Clone, Copy, Debug)]
+#[derive(Clone, Copy, Debug, Default, PartialEq, Eq)]
 pub struct LineCounts {
     pub carried_out: u64,
     pub refused: u64,
@@ -13,7 +13,7 @@ pub struct LineCounts {
 }
 
 // How many calls were opened and cleared, how many diverted initial addresses were sent and how many notes told.
-#[derive(Clone, Copy, Debug)]
+#[derive(Clone, Copy, Debug, Default, PartialEq, Eq)]
 pub struct CallCounts {
     pub opened: u64,
     pub cleared: u64,
@@ -22,41 +22,21 @@ pub struct CallCounts {
 }
 
 // What a script came to, and how many envelopes still wait.
-#[derive(Clone, Copy, Debug)]
+#[derive(Clone, Copy, Debug, Default, PartialEq, Eq)]
 pub struct Report {
     pub lines: LineCounts,
     pub calls: CallCounts,
     pub waiting: u64,
 }
 
-impl LineCounts {
-    // No line yet.
-    pub(crate) fn none() -> LineCounts
-        ensures { result ≡ no_lines }
-    {
-        LineCounts {
-            carried_out: 0,
-            refused: 0,
-            errors: 0,
-        }
-    }
-}
+// The report of a script without calls.
+impl From<LineCounts> for Report {
+    ghost from_gives = { λ lines report. report ≡ report_of lines };
 
-impl Report {
-    // The report of a script without calls.
-    pub(crate) fn of_lines(lines: LineCounts) -> Report
-        ensures { result ≡ report_of lines }
-    {
-        let calls = CallCounts {
-            opened: 0,
-            cleared: 0,
-            diversions: 0,
-            notes: 0,
-        };
+    fn from(lines: LineCounts) -> Report {
         Report {
             lines,
-            calls,
-            waiting: 0,
+            ..Report::default()
         }
     }
 }

@@ -10,25 +10,16 @@ use std::alloc::{AllocError, Global};
 pub(crate) fn words(heap: Global, text: &str) -> Result<Vec<&str>, AllocError>
     ensures { IfOk result (λ v. map (λ w. w.now) v.items ≡ words_of text.now) }
 {
-    let mut found = Vec::new(heap);
-    for piece in text.split(' ') {
-        if !piece.is_empty() {
-            found.push(piece)?;
-        }
-    }
-    Ok(found)
+    text.split(' ')
+        .filter(|piece| !piece.is_empty())
+        .collect(heap)
 }
 
 // The value of a hexadecimal digit.
 fn hex_value(digit: u8) -> Option<u8>
     ensures { result ≡ hex_value digit }
 {
-    match digit {
-        b'0'..=b'9' => Some(digit - b'0'),
-        b'A'..=b'F' => Some(digit - b'A' + 10),
-        b'a'..=b'f' => Some(digit - b'a' + 10),
-        _ => None,
-    }
+    Some(char::from(digit).to_digit(16)? as u8)
 }
 
 // The octet that a pair of digits spells.
@@ -41,20 +32,17 @@ fn octet(pair: &[u8]) -> Option<u8>
     Some(16 * hex_value(*high)? + hex_value(*low)?)
 }
 
-// Adds the octets that a word spells.
+// Adds the octets that a word spells. The kit's `hex` would make a list for each word, with an error of its own.
 fn add_octets<'a>(octets: &mut Vec<u8>, word: &'a str) -> Result<(), LineError<'a>>
     ensures { Gives (λ _. octets.new.items) result (after octets.old.items (spelt word.now)) }
 {
     for pair in word.as_bytes().chunks(2) {
-        let Some(octet) = octet(pair) else {
-            return Err(LineError::NotOctets(word));
-        };
-        octets.push(octet)?;
+        octets.push(octet(pair).ok_or(LineError::NotOctets(word))?)?;
     }
     Ok(())
 }
 
-// The octets that words spell one after another.
+// The octets that words spell one after another. They are made in memory that is handed in, so this is no TryFrom.
 pub fn octets<'a>(heap: Global, words: &[&'a str]) -> Result<Vec<u8>, LineError<'a>>
     ensures { Gives vec_items result (octets_of (map (λ w. w.now) words.now)) }
 {

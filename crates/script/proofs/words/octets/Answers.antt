@@ -1,13 +1,6 @@
-use Rattle.std.proofs.Common.{true-eqb, false-eqb}
 use Rattle.std.proofs.lemmas.Result.{err_from_is_err_and}
-use Rattle.script.proofs.Spelling.{no_words, words_start, next_word, wrong_word, all_words, hands_on}
+use Rattle.script.proofs.Spelling.{next_word, wrong_word, hands_on}
 use Rattle.script.proofs.words.octets.Goals as goal
-
-pub returns-then-is_empty : goal.returns-then-is_empty
-returns-then-is_empty c = no_words _ (true-eqb _ 0 c.if-is_empty.ensures)
-
-pub loop-word-init : goal.loop-word-init
-loop-word-init c = words_start _ _ c.new-octets.ensures.items (false-eqb _ 0 c.if-is_empty.ensures)
 
 pub loop-word-preserved : goal.loop-word-preserved
 loop-word-preserved c = next_word _ _ _ _ c.loop-word.invariant _ c.loop-word-test.true c.in_ok-add_octets.ensures
@@ -16,6 +9,3 @@ pub returns-in_err-add_octets : goal.returns-in_err-add_octets
 returns-in_err-add_octets c =
     let p = err_from_is_err_and c.from_residual.result c.from_residual.ensures.1 in
     rw (p.1, p.2) (hands_on _ _ _ (λ e. wrong_word _ _ _ _ c.loop-word.invariant e c.loop-word-test.true) c.in_err-add_octets.ensures)
-
-pub returns : goal.returns
-returns c = all_words _ _ _ c.loop-word.invariant c.loop-word-test.false

@@ -1,23 +1,12 @@
-use Rattle.std.proofs.Common.{is_ok, ap, ◌∙◌, true-eqb, false-eqb}
-use Rattle.std.proofs.ResultArms.{chosen}
-use Rattle.std.specs.Str.Iter.{split_text, split_has_more, split_pattern}
-use Rattle.script.proofs.Pieces.{starts, ends, skips, takes}
+use Rattle.std.proofs.Common.{◌==◌, not, length, lit<, rules}
+use Rattle.std.proofs.lemmas.Iterator.Consumers.{YieldsList-from_filter, YieldsList-at, map_from_collect}
+use Rattle.std.proofs.lemmas.Iterator.Splits.{YieldsList-from_str_split}
+use Rattle.script.specs.Words.{space}
 use Rattle.script.proofs.words.words.Goals as goal
 
-pub loop-piece-init : goal.loop-piece-init
-loop-piece-init c =
-    let whole = c.into_iter-piece-iterator.ensures.into_iter_gives in
-    let told = c.split-piece-items.ensures in
-    starts _ _ _ c.new-found.ensures.items (ap split_text whole ∙ told.text) (ap split_has_more whole ∙ told.has_more) (ap split_pattern whole ∙ told.pattern)
-
-pub loop-piece-preserved : goal.loop-piece-preserved
-loop-piece-preserved c = skips c.loop-piece.invariant _ c.in-Some.piece c.in-Some.ensures.steps (true-eqb _ 0 c.if-not-is_empty.ensures)
-
-pub loop-piece-preserved-in-Continue-1 : goal.loop-piece-preserved-in-Continue-1
-loop-piece-preserved-in-Continue-1 c =
-    let pushed = chosen _ _ _ _ c.push.ensures.items (ap is_ok c.in_ok-push.was) in
-    let some = false-eqb _ 0 c.if-not-is_empty.ensures in
-    rw pushed (takes c.loop-piece.invariant _ c.in-Some.piece c.in-Some.ensures.steps some)
-
 pub returns : goal.returns
-returns c = ends c.loop-piece.invariant _ c.in-None.ensures.steps
+returns c =
+    map_from_collect _ c.collect.ensures.ran
+    (YieldsList-from_filter _ (λ piece. not (length piece == 0))
+    (YieldsList-at c.filter.ensures.source (YieldsList-from_str_split space c.args.text.now (lit< tt) c.split.ensures.text c.split.ensures.has_more c.split.ensures.pattern))
+    c.filter.ensures.closure (λ x b f k. search rules))
