@@ -1,16 +1,10 @@
 // Carries out the stored vectors from standard input.
 #![tactic(auto)]
 
-use script::run;
-use std::io::Read;
+use script::run_input;
 use std::process::ExitCode;
 
-fn run_input(rt: &HostRuntime) -> anyhow::Result<()> {
-    let mut script = Vec::new(rt.alloc());
-    rt.stdin().read_to_end(&mut script)?;
-    run(rt, script.as_slice())
-}
-
+// The status says that something went wrong; an error that `main` answered would be printed.
 fn main(rt: HostRuntime) -> ExitCode {
     match run_input(&rt) {
         Ok(()) => ExitCode::SUCCESS,
