@@ -13,7 +13,8 @@ const USAGE: &str = "usage: speed OCTETS N          reads the message N times
        speed write OCTETS N    reads it once and writes it N times
 ";
 
-// How many of the readings gave a message; the call changes with each, so that none can be left out.
+// How many of the readings gave a message; the call changes with each, so that none can be left out. What a turn changes
+// is lent to the next, so the readings are counted by a loop and not by a filter.
 fn read_times(octets: &mut [u8], count: u64) -> u64 {
     let mut accepted: u64 = 0;
     for _ in 0..count {
@@ -27,7 +28,8 @@ fn read_times(octets: &mut [u8], count: u64) -> u64 {
     accepted
 }
 
-// The sum of the counts and first octets written; the call changes with each writing, so that none can be left out.
+// The sum of the counts and first octets written. The call changes with each writing, so that none can be left out: k is
+// the number of the turn, and goes over no list.
 fn write_times(message: &Message, memory: &mut [u8], count: u64) -> u64 {
     let mut sum: u64 = 0;
     for k in 0..count {
@@ -44,10 +46,18 @@ fn write_times(message: &Message, memory: &mut [u8], count: u64) -> u64 {
     sum
 }
 
-fn time_reading(rt: &HostRuntime, octets: &mut [u8], count: u64) -> anyhow::Result<()> {
+// What the work gives, and how many nanoseconds each of its turns took.
+fn timed<F: FnOnce() -> u64>(rt: &HostRuntime, count: u64, work: F) -> anyhow::Result<(u64, u128)>
+    requires { F.IsAlwaysCallable work }
+{
     let start = Instant::now(rt)?;
-    let accepted = read_times(octets, count);
+    let given = work();
     let each = start.elapsed(rt)?.as_nanos() / count.max(1) as u128;
+    Ok((given, each))
+}
+
+fn time_reading(rt: &HostRuntime, octets: &mut [u8], count: u64) -> anyhow::Result<()> {
+    let (accepted, each) = timed(rt, count, || read_times(octets, count))?;
     if accepted != count {
         println!(rt; "a message in {accepted} of {count} readings")?;
     }
@@ -56,14 +66,9 @@ fn time_reading(rt: &HostRuntime, octets: &mut [u8], count: u64) -> anyhow::Resu
 }
 
 fn time_writing(rt: &HostRuntime, octets: &[u8], count: u64) -> anyhow::Result<()> {
-    let Ok(found) = read(octets) else {
-        return Err(anyhow!("the octets are no message"));
-    };
-    let (_, message) = found;
+    let (_, message) = read(octets).map_err(|_| anyhow!("the octets are no message"))?;
     let mut memory = [0u8; 64];
-    let start = Instant::now(rt)?;
-    let sum = write_times(&message, &mut memory, count);
-    let each = start.elapsed(rt)?.as_nanos() / count.max(1) as u128;
+    let (sum, each) = timed(rt, count, || write_times(&message, &mut memory, count))?;
     if sum == 0 {
         return Err(anyhow!("nothing was written"));
     }
@@ -71,29 +76,27 @@ fn time_writing(rt: &HostRuntime, octets: &[u8], count: u64) -> anyhow::Result<(
     Ok(())
 }
 
-fn measure(rt: &HostRuntime, writing: bool, word: &str, count: &str) -> anyhow::Result<()> {
-    let count = count.parse::<u64>()?;
-    match octets(rt.alloc(), &[word]) {
-        Ok(octets) => {
-            let mut octets = octets;
-            if writing {
-                return time_writing(rt, octets.as_slice(), count);
-            }
-            time_reading(rt, octets.as_mut_slice(), count)
-        }
-        Err(error) => {
-            eprintln!(rt; "speed: {error}")?;
-            Err(anyhow!("no octets"))
-        }
+// The octets that a word spells.
+fn octets_of(rt: &HostRuntime, word: &str) -> anyhow::Result<Vec<u8>> {
+    let spelt = octets(rt.alloc(), &[word]);
+    if let Err(error) = &spelt {
+        eprintln!(rt; "speed: {error}")?;
     }
+    spelt.map_err(|_| anyhow!("no octets"))
 }
 
 fn main(rt: HostRuntime) -> anyhow::Result<()> {
     let arguments: Vec<String> = env::args(&rt)?.skip(1).collect(rt.alloc())?;
     match arguments.as_slice() {
-        [word, count] => measure(&rt, false, word.as_str(), count.as_str()),
+        [word, count] => {
+            let count = count.as_str().parse()?;
+            let mut octets = octets_of(&rt, word.as_str())?;
+            time_reading(&rt, octets.as_mut_slice(), count)
+        }
         [write, word, count] if write.as_str() == "write" => {
-            measure(&rt, true, word.as_str(), count.as_str())
+            let count = count.as_str().parse()?;
+            let octets = octets_of(&rt, word.as_str())?;
+            time_writing(&rt, octets.as_slice(), count)
         }
         _ => {
             print!(rt; "{USAGE}")?;
