@@ -28,7 +28,8 @@ fn read_times(octets: &mut [u8], count: u64) -> u64 {
     accepted
 }
 
-// The sum of the counts and first octets written; the call changes with each writing, so that none can be left out.
+// The sum of the counts and first octets written. The call changes with each writing, so that none can be left out: k is
+// the number of the turn, and goes over no list.
 fn write_times(message: &Message, memory: &mut [u8], count: u64) -> u64 {
     let mut sum: u64 = 0;
     for k in 0..count {
@@ -84,6 +85,7 @@ fn octets_of(rt: &HostRuntime, word: &str) -> anyhow::Result<Vec<u8>> {
             Err(anyhow!("no octets"))
         }
     }
+    spelt.map_err(|_| anyhow!("no octets"))
 }
 
 fn main(rt: HostRuntime) -> anyhow::Result<()> {
