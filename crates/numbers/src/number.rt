@@ -7,6 +7,7 @@ pub mod reading;
 pub mod writing;
 
 // The digits stand at the front and zeros behind them, so that equal numbers are equal values.
+// An array and a count, since an `ArrayVec` is not `Copy`, and numbers are copied everywhere.
 #[derive(Clone, Copy, Debug)]
 pub struct Number {
     digits: [u8; 15],
