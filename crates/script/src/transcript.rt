@@ -50,7 +50,7 @@ impl Transcript {
     }
 
     // Carries out the line with a number.
-    fn carry_out(&mut self, heap: Global, number: usize, line: &str) -> Result<(), AllocError>
+    pub fn carry_out(&mut self, heap: Global, number: usize, line: &str) -> Result<(), AllocError>
         ensures { OnOk result (state_of self.new ≡ adding (output_of number (meaning line.now)) (state_of self.old)) }
     {
         match reply_to(heap, line) {
