@@ -83,7 +83,7 @@ impl fmt::Display for Text<RedirectionInformation> {
     }
 }
 
-// Nothing is written of none. One impl for the options of every type could not say what is written of a value in them.
+// Nothing is written of none. A wrapper of any option would take three lines from here, and add a `map` at each use.
 impl fmt::Display for Text<Option<Redirection<Number>>> {
     ghost output = { λ t. Some (redirection_text t.0) };
 

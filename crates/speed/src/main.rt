@@ -78,12 +78,9 @@ fn time_writing(rt: &HostRuntime, octets: &[u8], count: u64) -> anyhow::Result<(
 
 // The octets that a word spells.
 fn octets_of(rt: &HostRuntime, word: &str) -> anyhow::Result<Vec<u8>> {
-    match octets(rt.alloc(), &[word]) {
-        Ok(octets) => Ok(octets),
-        Err(error) => {
-            eprintln!(rt; "speed: {error}")?;
-            Err(anyhow!("no octets"))
-        }
+    let spelt = octets(rt.alloc(), &[word]);
+    if let Err(error) = &spelt {
+        eprintln!(rt; "speed: {error}")?;
     }
     spelt.map_err(|_| anyhow!("no octets"))
 }
