@@ -2,9 +2,17 @@
 #![tactic(auto)]
 
 use anyhow::anyhow;
-use script::{Source, USAGE, run, run_input, source_of};
+use script::{Source, USAGE, run, source_of};
+use std::io::Read;
 use std::process::ExitCode;
 use std::{env, fs};
+
+// Both programs over scripts have it: shared, it would be a public function that no contract could say anything of.
+fn run_input(rt: &HostRuntime) -> anyhow::Result<()> {
+    let mut script = Vec::new(rt.alloc());
+    rt.stdin().read_to_end(&mut script)?;
+    run(rt, script.as_slice())
+}
 
 fn run_file(rt: &HostRuntime, name: &str) -> anyhow::Result<()> {
     match fs::read(rt, name) {

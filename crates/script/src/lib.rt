@@ -13,7 +13,7 @@ mod words;
 pub use answer::{Answer, answer_to};
 pub use arguments::{ArgumentError, Source, source_of};
 pub use line::{Command, LineError, parse};
-pub use program::{USAGE, run, run_input};
+pub use program::{USAGE, run};
 pub use report::LineCounts;
 pub use transcript::{Transcript, rehearse, reply_to};
 pub use words::octets;

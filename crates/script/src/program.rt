@@ -4,7 +4,6 @@ ghost use Rattle.std.specs.Prelude.{◌≡◌, IsUtf8, OnOk};
 
 use crate::transcript::{Transcript, rehearse};
 use anyhow::anyhow;
-use std::io::Read;
 
 pub const USAGE: &str = "usage: rehearse [FILE]
 
@@ -30,11 +29,4 @@ pub fn run(rt: &HostRuntime, script: &[u8]) -> anyhow::Result<()>
         return Err(anyhow!("a line is none of the script's"));
     }
     Ok(())
-}
-
-// Carries out the script on standard input. No clause can say what is read there.
-pub fn run_input(rt: &HostRuntime) -> anyhow::Result<()> {
-    let mut script = Vec::new(rt.alloc());
-    rt.stdin().read_to_end(&mut script)?;
-    run(rt, script.as_slice())
 }
