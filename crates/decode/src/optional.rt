@@ -18,6 +18,7 @@ pub(crate) struct Gathered {
     pub redirecting: Option<Party<Number>>,
     pub original: Option<Party<Number>>,
     pub information: Option<RedirectionInformation>,
+    // 29 and 2C say no more than that they are there.
     pub may_divert: bool,
     pub announced: bool,
     pub diversion: Option<DiversionInformation>,
@@ -109,7 +110,7 @@ impl Walk {
     }
 }
 
-// The number at a place, under its mark.
+// The number at a place, under its mark, told as `read_number` is whether it may be restricted.
 pub(crate) fn party(
     content: &[u8],
     may_restrict: bool,
@@ -129,6 +130,7 @@ pub(crate) fn read_optional(row: Row, mut part: OptionalPart) -> Result<Gathered
 {
     let mut met = [false; 256];
     let mut walk = Walk::default();
+    // No `for`, since `next` may fault and `?` ends the walk there.
     while let Some(p) = part.next()? {
         let name = p.name();
         if row.has(name) {
