@@ -11,24 +11,24 @@ use crate::parameter::OptionalPart;
 use isup::codes::UnknownCode;
 use isup::row::Row;
 
-// A message's octets and the place that the reader has come to. Who reads gives the place to begin at: the octets of a reader that
-// comes from a call are equal to the message's but not the same to the proof, and that of release and initial address stays open.
+// A message's octets and the place that the reader has come to. Each who reads writes the place to begin at: where a function made
+// the reader, its octets were equal to the message's but not the same to the proof, and two proofs stayed open.
 #[derive(Drop)]
 pub(crate) struct Mandatory<'a> {
-    pub octets: &'a [u8],
-    pub place: usize,
+    pub(crate) octets: &'a [u8],
+    pub(crate) place: usize,
 }
 
 // The content of a variable field and the place of its length octet.
 #[derive(Clone, Copy)]
 pub(crate) struct Field<'a> {
-    pub content: &'a [u8],
-    pub place: usize,
+    pub(crate) content: &'a [u8],
+    pub(crate) place: usize,
 }
 
 impl<'a> Mandatory<'a> {
     // An octet that must be there.
-    pub fn octet(&mut self) -> Result<u8, MessageFault>
+    pub(crate) fn octet(&mut self) -> Result<u8, MessageFault>
         ensures read { result ≡ octet_in self.old.octets.now self.old.place }
         ensures moved { OnOk result (self.new.place ≡ self.old.place + 1) }
         ensures same { self.new.octets.now ≡ self.old.octets.now }
@@ -40,7 +40,7 @@ impl<'a> Mandatory<'a> {
     }
 
     // An octet that can have one value only.
-    pub fn exact(&mut self, octet: u8) -> Result<(), MessageFault>
+    pub(crate) fn exact(&mut self, octet: u8) -> Result<(), MessageFault>
         ensures read { result ≡ exact_in self.old.octets.now self.old.place octet }
         ensures moved { OnOk result (self.new.place ≡ self.old.place + 1) }
         ensures same { self.new.octets.now ≡ self.old.octets.now }
@@ -53,7 +53,9 @@ impl<'a> Mandatory<'a> {
     }
 
     // The value that an octet is the code of.
-    pub fn coded<T: TryFrom<u8, Error = UnknownCode> + Copy>(&mut self) -> Result<T, MessageFault>
+    pub(crate) fn coded<T: TryFrom<u8, Error = UnknownCode> + Copy>(
+        &mut self,
+    ) -> Result<T, MessageFault>
         ensures read { MatchResult (octet_in self.old.octets.now self.old.place) (λ code. (r : Result T UnknownCode) × (T.try_from_gives code r × (result ≡ or_value_fault (result_ok r) self.old.place))) (λ f. result ≡ Err f) }
         ensures moved { OnOk result (self.new.place ≡ self.old.place + 1) }
         ensures same { self.new.octets.now ≡ self.old.octets.now }
@@ -64,7 +66,7 @@ impl<'a> Mandatory<'a> {
     }
 
     // The variable field that the pointer at the place leads to; the place moves to the next pointer.
-    pub fn variable(&mut self) -> Result<Field<'a>, MessageFault>
+    pub(crate) fn variable(&mut self) -> Result<Field<'a>, MessageFault>
         ensures read { MatchResult result (λ v. variable_in self.old.octets.now self.old.place ≡ Ok v.content.now) (λ f. variable_in self.old.octets.now self.old.place ≡ Err f) }
         ensures place { IfOk result (λ v. v.place ≡ self.old.place + 2) }
         ensures fits { IfOk result (λ v. v.place + 1 + length v.content.now ≤ length self.old.octets.now) }
@@ -84,7 +86,7 @@ impl<'a> Mandatory<'a> {
     }
 
     // The optional part, by the pointer at the place; it begins where the mandatory part ends.
-    pub fn optional(&self, row: Row, end: usize) -> Result<Gathered, MessageFault>
+    pub(crate) fn optional(&self, row: Row, end: usize) -> Result<Gathered, MessageFault>
         requires { (self.now.place < end) × (end ≤ length self.now.octets.now) }
         ensures { result ≡ optional_in row self.now.octets.now self.now.place end }
     {
@@ -103,7 +105,7 @@ impl<'a> Mandatory<'a> {
     }
 
     // The optional part of a message without a variable field.
-    pub fn tail(&self, row: Row) -> Result<Gathered, MessageFault>
+    pub(crate) fn tail(&self, row: Row) -> Result<Gathered, MessageFault>
         ensures { result ≡ tail_in row self.now.octets.now self.now.place }
     {
         let at = self.place;
@@ -116,7 +118,7 @@ impl<'a> Mandatory<'a> {
 
 impl Field<'_> {
     // The place behind the field.
-    pub fn end(&self) -> usize
+    pub(crate) fn end(&self) -> usize
         requires { self.now.place + 1 + length self.now.content.now ≤ 2 ^ 63 }
         ensures { result ≡ self.now.place + 1 + length self.now.content.now }
     {

@@ -3,6 +3,8 @@ ghost use Rattle.std.specs.Prelude.{◌≡◌, ◌<◌, ◌≤◌, length, OnOk}
 ghost use Rattle.decode.specs.Parameters.{part_of, step_of, step_at, after, InItsCase, AllInTheirCase};
 
 use crate::fault::MessageFault;
+use isup::codes::UnknownCode;
+use isup::row::ParameterName;
 
 // A parameter: its content, a part of the message's octets, and the place of its name.
 #[derive(Clone, Copy)]
@@ -25,14 +27,14 @@ impl<'a> OptionalParameter<'a> {
         ensures { result ≡ (part_of self.now).name }
     {
         match *self {
-            OptionalParameter::Redirecting(..) => 0x0B,
-            OptionalParameter::Original(..) => 0x28,
-            OptionalParameter::Information(..) => 0x13,
-            OptionalParameter::MayDivert(..) => 0x29,
-            OptionalParameter::Announced(..) => 0x2C,
-            OptionalParameter::Diversion(..) => 0x36,
-            OptionalParameter::Redirection(..) => 0x0C,
-            OptionalParameter::Restriction(..) => 0x40,
+            OptionalParameter::Redirecting(..) => ParameterName::Redirecting.into(),
+            OptionalParameter::Original(..) => ParameterName::Original.into(),
+            OptionalParameter::Information(..) => ParameterName::Information.into(),
+            OptionalParameter::MayDivert(..) => ParameterName::MayDivert.into(),
+            OptionalParameter::Announced(..) => ParameterName::Announced.into(),
+            OptionalParameter::Diversion(..) => ParameterName::Diversion.into(),
+            OptionalParameter::Redirection(..) => ParameterName::Redirection.into(),
+            OptionalParameter::Restriction(..) => ParameterName::Restriction.into(),
             OptionalParameter::Foreign(name, _, _) => name,
         }
     }
@@ -54,23 +56,23 @@ impl<'a> OptionalParameter<'a> {
     }
 }
 
-// The case of a name. Behind it no name is an octet: the cases stand for the names, and hold what they lend.
+// The case of a name.
 fn named<'a>(name: u8, content: &'a [u8], at: usize) -> OptionalParameter<'a>
     ensures name { (part_of result).name ≡ name }
     ensures content { (part_of result).content ≡ content.now }
     ensures place { (part_of result).place ≡ at }
     ensures known { InItsCase result }
 {
-    match name {
-        0x0B => OptionalParameter::Redirecting(content, at),
-        0x28 => OptionalParameter::Original(content, at),
-        0x13 => OptionalParameter::Information(content, at),
-        0x29 => OptionalParameter::MayDivert(content, at),
-        0x2C => OptionalParameter::Announced(content, at),
-        0x36 => OptionalParameter::Diversion(content, at),
-        0x0C => OptionalParameter::Redirection(content, at),
-        0x40 => OptionalParameter::Restriction(content, at),
-        other => OptionalParameter::Foreign(other, content, at),
+    match ParameterName::try_from(name) {
+        Ok(ParameterName::Redirecting) => OptionalParameter::Redirecting(content, at),
+        Ok(ParameterName::Original) => OptionalParameter::Original(content, at),
+        Ok(ParameterName::Information) => OptionalParameter::Information(content, at),
+        Ok(ParameterName::MayDivert) => OptionalParameter::MayDivert(content, at),
+        Ok(ParameterName::Announced) => OptionalParameter::Announced(content, at),
+        Ok(ParameterName::Diversion) => OptionalParameter::Diversion(content, at),
+        Ok(ParameterName::Redirection) => OptionalParameter::Redirection(content, at),
+        Ok(ParameterName::Restriction) => OptionalParameter::Restriction(content, at),
+        Err(UnknownCode(other)) => OptionalParameter::Foreign(other, content, at),
     }
 }
 

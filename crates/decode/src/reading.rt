@@ -20,7 +20,7 @@ fn redirection(g: &Gathered, length: usize) -> Result<Option<Redirection<Number>
 {
     let group = all_or_none(g.redirecting, g.original, g.information);
     let group = group.map_err(|_| MessageFault::Group(length))?;
-    // A `map` here would copy the group once more.
+    // By `else`, since a `map` costs the copy of a group (some 40 instructions) more, and reading is the slower half.
     let Some((redirecting, original, information)) = group else {
         return Ok(None);
     };
@@ -37,7 +37,7 @@ fn notice(g: &Gathered, length: usize) -> Result<Option<Notice<Number>>, Message
 {
     let group = all_or_none(g.announced.then_some(()), g.diversion, g.redirection);
     let group = group.map_err(|_| MessageFault::Group(length))?;
-    // As above.
+    // By `else`, as above.
     let Some((_, information, number)) = group else {
         return Ok(None);
     };

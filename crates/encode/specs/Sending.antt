@@ -9,20 +9,7 @@ use Rattle.isup.specs.declared.message.Notice.{Notice}
 use Rattle.isup.specs.declared.message.Backward.{Backward}
 use Rattle.isup.specs.declared.message.Message.{Message}
 use Rattle.isup.specs.declared.message.Message.TheVariants.{InitialAddress, AddressComplete, CallProgress, Answer, Connect, Release}
-use Rattle.encode.specs.declared.optional.Name.{Name}
-use Rattle.encode.specs.declared.optional.Name.TheVariants as name
 use Rattle.isup.specs.Coding.{Parameter, information_octets, diversion_octets, restriction_octets}
-
--- the octet of each name
-abbrev pub name_code : Name → ℕ
-name_code name.Redirecting = 0x0B
-name_code name.Original = 0x28
-name_code name.Information = 0x13
-name_code name.MayDivert = 0x29
-name_code name.Announced = 0x2C
-name_code name.Diversion = 0x36
-name_code name.Redirection = 0x0C
-name_code name.Restriction = 0x40
 
 -- the octets of a part that may be absent
 abbrev pub octets_if : {A : Type 0} → (A → List ℕ) → Option A → List ℕ

@@ -2,36 +2,17 @@
 ghost use Rattle.std.specs.Prelude.{◌≡◌, true, [], ◌∷◌, Some, None};
 ghost use Rattle.numbers.specs.Digits.{content};
 ghost use Rattle.numbers.specs.Drafts.{Adds};
+ghost use Rattle.isup.specs.Codes.{name_code};
 ghost use Rattle.isup.specs.Coding.{encoded, information_octets, diversion_octets, optional_octets, behind};
-ghost use Rattle.encode.specs.Sending.{name_code, redirection_sent, may_divert_sent, notice_sent, restriction_sent, backward_sent, any_sent};
+ghost use Rattle.encode.specs.Sending.{redirection_sent, may_divert_sent, notice_sent, restriction_sent, backward_sent, any_sent};
 
 use crate::part::Part;
 use isup::message::{
     Backward, DiversionInformation, Notice, Redirection, RedirectionInformation, Restriction,
 };
+use isup::row::ParameterName;
 use numbers::draft::Draft;
 use numbers::number::{Number, Party};
-
-// The names of the optional parameters.
-#[derive(Clone, Copy)]
-enum Name {
-    Redirecting = 0x0B,
-    Original = 0x28,
-    Information = 0x13,
-    MayDivert = 0x29,
-    Announced = 0x2C,
-    Diversion = 0x36,
-    Redirection = 0x0C,
-    Restriction = 0x40,
-}
-
-impl From<Name> for u8 {
-    ghost from_gives = { λ name octet. octet ≡ name_code name };
-
-    fn from(name: Name) -> u8 {
-        name as u8
-    }
-}
 
 // The indicator, then the reason above the count.
 fn information_octets(information: RedirectionInformation) -> [u8; 2]
@@ -52,7 +33,7 @@ fn diversion_octet(information: DiversionInformation) -> u8
 }
 
 // A number under a name.
-fn draft_party(name: Name, party: &Party<Number>, draft: &mut Draft)
+fn draft_party(name: ParameterName, party: &Party<Number>, draft: &mut Draft)
     ensures { Adds draft.old draft.new (encoded ((name_code name, content party.now) ∷ [])) }
 {
     draft.push_all(&[name.into(), party.content_len() as u8]);
@@ -64,10 +45,10 @@ impl Part for Redirection<Number> {
     ghost octets = { λ redirection. optional_octets true (redirection_sent (Some redirection)) };
 
     fn draft(&self, draft: &mut Draft) {
-        draft_party(Name::Redirecting, &self.redirecting, draft);
-        draft_party(Name::Original, &self.original, draft);
+        draft_party(ParameterName::Redirecting, &self.redirecting, draft);
+        draft_party(ParameterName::Original, &self.original, draft);
         let [indicator, packed] = information_octets(self.information);
-        draft.push_all(&[Name::Information as u8, 2, indicator, packed, 0x00]);
+        draft.push_all(&[ParameterName::Information as u8, 2, indicator, packed, 0x00]);
     }
 }
 
@@ -76,7 +57,7 @@ fn draft_may_divert(may_divert: bool, draft: &mut Draft)
     ensures { Adds draft.old draft.new (encoded (may_divert_sent may_divert)) }
 {
     if may_divert {
-        draft.push_all(&[Name::MayDivert as u8, 1, 0x02]);
+        draft.push_all(&[ParameterName::MayDivert as u8, 1, 0x02]);
     }
 }
 
@@ -85,9 +66,13 @@ impl Part for Notice<Number> {
     ghost octets = { λ notice. encoded (notice_sent (Some notice)) };
 
     fn draft(&self, draft: &mut Draft) {
-        draft.push_all(&[Name::Announced as u8, 1, 0xFB]);
-        draft.push_all(&[Name::Diversion as u8, 1, diversion_octet(self.information)]);
-        draft_party(Name::Redirection, &Party::from(self.number), draft);
+        draft.push_all(&[ParameterName::Announced as u8, 1, 0xFB]);
+        draft.push_all(&[
+            ParameterName::Diversion as u8,
+            1,
+            diversion_octet(self.information),
+        ]);
+        draft_party(ParameterName::Redirection, &Party::from(self.number), draft);
     }
 }
 
@@ -96,7 +81,7 @@ impl Part for Restriction {
     ghost octets = { λ restriction. encoded (restriction_sent (Some restriction)) };
 
     fn draft(&self, draft: &mut Draft) {
-        draft.push_all(&[Name::Restriction as u8, 1, (*self).into()]);
+        draft.push_all(&[ParameterName::Restriction as u8, 1, (*self).into()]);
     }
 }
 

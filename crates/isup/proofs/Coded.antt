@@ -2,7 +2,7 @@
 use Rattle.std.proofs.Common.{◌≡◌, ℕ, List, [], ◌∷◌, Some, ap, ◌∙◌, sym, refl, arith}
 use Rattle.std.proofs.Math.Decide.{dec_le}
 use Rattle.std.proofs.Math.Logic.{dite}
-use Rattle.std.proofs.lemmas.Option.{none-some}
+use Rattle.std.proofs.lemmas.Option.{none-some, same_Some}
 use Rattle.std.proofs.lemmas.Bool.Decides.{nat_tests}
 use Rattle.isup.specs.declared.message.Service.{Service}
 use Rattle.isup.specs.declared.message.Service.TheVariants as service
@@ -107,13 +107,10 @@ pub found_circuit : (x : Circuit) → circuit_in x.call x.leg ≡ Some x
 found_circuit x = sym (circuit_made x)
 
 -- a value found under a number has that number
-pub some_same : {A : Type 0} {x y : A} → Some x ≡ Some y → x ≡ y
-some_same e = cc
-
 pub number_of_ranged : (low high n : ℕ) (x : Ranged low high) → in_range low high n ≡ Some x → n ≡ x.value
 number_of_ranged low high n x e =
     dite (dec_le low n)
-    (λ l. dite (dec_le n high) (λ h. ap (λ (y : Ranged low high). y.value) (some_same (ranged_made (record { value = n; low = l; high = h }) ∙ e)))
+    (λ l. dite (dec_le n high) (λ h. ap (λ (y : Ranged low high). y.value) (same_Some _ _ (ranged_made (record { value = n; low = l; high = h }) ∙ e)))
     (λ not. absurd (none-some x (none_above low high n (omega arith) ∙ e))))
     (λ not. absurd (none-some x (none_below low high n (omega arith) ∙ e)))
 

@@ -2,6 +2,8 @@
 use Rattle.std.specs.Prelude.{ℕ, cond, List, [], ◌∷◌, Some, None, Option, Result, ◌==◌}
 use Rattle.std.specs.Option.{ok_or}
 use Rattle.isup.specs.declared.codes.UnknownCode.{UnknownCode}
+use Rattle.isup.specs.declared.row.ParameterName.{ParameterName}
+use Rattle.isup.specs.declared.row.ParameterName.TheVariants as name
 use Rattle.isup.specs.declared.message.MessageKind.{MessageKind}
 use Rattle.isup.specs.declared.message.MessageKind.TheVariants as kind
 use Rattle.isup.specs.declared.message.Service.{Service}
@@ -70,6 +72,16 @@ kind_code kind.Answer = 0x09
 kind_code kind.Connect = 0x07
 kind_code kind.Release = 0x0C
 
+abbrev pub name_code : ParameterName → ℕ
+name_code name.Redirecting = 0x0B
+name_code name.Original = 0x28
+name_code name.Information = 0x13
+name_code name.MayDivert = 0x29
+name_code name.Announced = 0x2C
+name_code name.Diversion = 0x36
+name_code name.Redirection = 0x0C
+name_code name.Restriction = 0x40
+
 -- the value among these whose code is n
 abbrev pub with_code : {A : Type 0} → (A → ℕ) → List A → ℕ → Option A
 with_code code [] n = None
@@ -105,6 +117,11 @@ abbrev pub kind_of : ℕ → Option MessageKind
 kind_of n =
     with_code kind_code
     (kind.InitialAddress ∷ kind.AddressComplete ∷ kind.CallProgress ∷ kind.Answer ∷ kind.Connect ∷ kind.Release ∷ []) n
+
+abbrev pub name_of : ℕ → Option ParameterName
+name_of n =
+    with_code name_code
+    (name.Redirecting ∷ name.Original ∷ name.Information ∷ name.MayDivert ∷ name.Announced ∷ name.Diversion ∷ name.Redirection ∷ name.Restriction ∷ []) n
 
 -- what was found under a code, or the error that names the code
 abbrev pub known : {A : Type 0} → ℕ → Option A → Result A UnknownCode

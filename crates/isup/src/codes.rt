@@ -1,11 +1,13 @@
 // The code of each value, and the value of each code.
+// Each type has its own two tables: neither one impl for all types that have codes nor a macro that writes impls is to be had.
 ghost use Rattle.std.specs.Prelude.{◌≡◌};
 ghost use Rattle.numbers.specs.declared.refusal.Refusal.TheVariants.{OutOfRange};
-ghost use Rattle.isup.specs.Codes.{known, kind_code, kind_of, service_code, service_of, reason_code, reason_of, notification_code, notification_of, indicator_code, indicator_of, restriction_code, restriction_of, status_code, status_of, event_code, event_of, way_code, way_of};
+ghost use Rattle.isup.specs.Codes.{known, kind_code, kind_of, name_code, name_of, service_code, service_of, reason_code, reason_of, notification_code, notification_of, indicator_code, indicator_of, restriction_code, restriction_of, status_code, status_of, event_code, event_of, way_code, way_of};
 
 use crate::message::{
     Event, Indicator, LineStatus, MessageKind, Notification, Reason, Restriction, Service, Way,
 };
+use crate::row::ParameterName;
 use numbers::refusal::Refusal;
 
 // A code that no value has.
@@ -227,6 +229,34 @@ impl TryFrom<u8> for MessageKind {
             0x09 => Ok(MessageKind::Answer),
             0x07 => Ok(MessageKind::Connect),
             0x0C => Ok(MessageKind::Release),
+            _ => Err(UnknownCode(code)),
+        }
+    }
+}
+
+impl From<ParameterName> for u8 {
+    ghost from_gives = { λ name code. code ≡ name_code name };
+
+    fn from(name: ParameterName) -> u8 {
+        name as u8
+    }
+}
+
+impl TryFrom<u8> for ParameterName {
+    type Error = UnknownCode;
+
+    ghost try_from_gives = { λ code r. r ≡ known code (name_of code) };
+
+    fn try_from(code: u8) -> Result<ParameterName, UnknownCode> {
+        match code {
+            0x0B => Ok(ParameterName::Redirecting),
+            0x28 => Ok(ParameterName::Original),
+            0x13 => Ok(ParameterName::Information),
+            0x29 => Ok(ParameterName::MayDivert),
+            0x2C => Ok(ParameterName::Announced),
+            0x36 => Ok(ParameterName::Diversion),
+            0x0C => Ok(ParameterName::Redirection),
+            0x40 => Ok(ParameterName::Restriction),
             _ => Err(UnknownCode(code)),
         }
     }

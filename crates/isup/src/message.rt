@@ -88,7 +88,7 @@ pub type Count = Ranged<1, 5>;
 pub type Exchange = Ranged<0, 7>;
 
 // The circuit of a message: its call, 0 to 63, and the call's leg, 0 to 5.
-// Not two ranged numbers: all who ask a circuit for its call and leg compare and count with them.
+// Not two ranged numbers: whoever asks a circuit for its call or its leg wants a number.
 #[derive(Clone, Copy, Debug, PartialEq, Eq)]
 pub struct Circuit {
     call: u8,

@@ -2,6 +2,19 @@
 ghost use Rattle.std.specs.Prelude.{◌≡◌};
 ghost use Rattle.isup.specs.Rows.{has};
 
+// The name of an optional parameter.
+#[derive(Clone, Copy, Debug, PartialEq, Eq)]
+pub enum ParameterName {
+    Redirecting = 0x0B,
+    Original = 0x28,
+    Information = 0x13,
+    MayDivert = 0x29,
+    Announced = 0x2C,
+    Diversion = 0x36,
+    Redirection = 0x0C,
+    Restriction = 0x40,
+}
+
 // Two messages with the same parameters share a row.
 #[derive(Clone, Copy, Debug, PartialEq, Eq)]
 pub enum Row {

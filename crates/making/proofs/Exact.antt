@@ -3,7 +3,7 @@ use Rattle.std.proofs.Common.{◌≡◌, ℕ, Bool, true, false, cond, eqb, Some
 use Rattle.std.specs.Option.{option_map}
 use Rattle.making.specs.Refusing.{or_refused}
 use Rattle.std.proofs.lemmas.Bool.{eqb-true}
-use Rattle.std.proofs.lemmas.Option.{none-some}
+use Rattle.std.proofs.lemmas.Option.{none-some, same_Some}
 use Rattle.numbers.specs.declared.number.Number.{Number}
 use Rattle.numbers.specs.declared.number.Party.{Party}
 use Rattle.numbers.specs.declared.refusal.Refusal.{Refusal}
@@ -18,7 +18,7 @@ use Rattle.isup.specs.declared.message.Message.{Message}
 use Rattle.isup.specs.declared.message.Message.TheVariants.{InitialAddress, AddressComplete, CallProgress, Answer, Connect, Release}
 use Rattle.isup.specs.Codes.{service_of, reason_of, notification_of, indicator_of, restriction_of, status_of, event_of, restriction_code}
 use Rattle.isup.specs.Ranges.{cause_in, count_in, circuit_in}
-use Rattle.isup.proofs.Coded.{some_same, code_of_service, code_of_reason, code_of_notification, code_of_indicator, code_of_restriction, code_of_status, code_of_event, found_service, found_reason, found_notification, found_indicator, found_restriction, found_status, found_event, found_ranged, found_circuit, number_of_ranged, numbers_of_circuit}
+use Rattle.isup.proofs.Coded.{code_of_service, code_of_reason, code_of_notification, code_of_indicator, code_of_restriction, code_of_status, code_of_event, found_service, found_reason, found_notification, found_indicator, found_restriction, found_status, found_event, found_ranged, found_circuit, number_of_ranged, numbers_of_circuit}
 use Rattle.making.specs.declared.parts.Mandatory.{Mandatory}
 use Rattle.making.specs.declared.parts.RawInformation.{RawInformation}
 use Rattle.making.specs.declared.parts.RawRedirection.{RawRedirection}
@@ -52,7 +52,7 @@ information_sound i x e =
     let ia = code_of_indicator _ _ a.1 in
     let ib = number_of_ranged _ _ _ _ b.1 in
     let id = code_of_reason _ _ d.1 in
-    (λ k. record { indicator = ia k; count = ib k; reason = id k }) ∙ ap raw_information (some_same d.2)
+    (λ k. record { indicator = ia k; count = ib k; reason = id k }) ∙ ap raw_information (same_Some _ _ d.2)
 
 information_again : (x : RedirectionInformation) → information_in (raw_information x) ≡ Some x
 information_again x = takes_at _ (found_indicator x.indicator) ∙ takes_at _ (found_ranged x.count) ∙ takes_at _ (found_reason x.reason)
@@ -60,7 +60,7 @@ information_again x = takes_at _ (found_indicator x.indicator) ∙ takes_at _ (f
 redirection_sound :
     (a b : Option (Party Number)) (i : Option RawInformation) (r : Option (Redirection Number)) → redirection_from a b i ≡ Some r →
     ◌≡◌ {A = RawRedirection} (record { redirecting = a; original = b; information = i }) (raw_redirection r)
-redirection_sound None None None r e = ap raw_redirection (some_same e)
+redirection_sound None None None r e = ap raw_redirection (same_Some _ _ e)
 redirection_sound None None (Some i) r e = absurd (none-some _ e)
 redirection_sound None (Some b) i r e = absurd (none-some _ e)
 redirection_sound (Some a) None i r e = absurd (none-some _ e)
@@ -68,7 +68,7 @@ redirection_sound (Some a) (Some b) None r e = absurd (none-some _ e)
 redirection_sound (Some a) (Some b) (Some i) r e =
     let x = takes_some (information_in i) _ r e in
     let s = information_sound i x.0 x.1 in
-    (λ k. record { redirecting = Some a; original = Some b; information = Some (s k) }) ∙ ap raw_redirection (some_same x.2)
+    (λ k. record { redirecting = Some a; original = Some b; information = Some (s k) }) ∙ ap raw_redirection (same_Some _ _ x.2)
 
 redirection_again : (r : Option (Redirection Number)) → redirection_in (raw_redirection r) ≡ Some r
 redirection_again None = refl
@@ -80,7 +80,7 @@ diversion_sound d x e =
     let b = takes_some (reason_of d.reason) _ x a.2 in
     let ia = code_of_notification _ _ a.1 in
     let ib = code_of_reason _ _ b.1 in
-    (λ k. record { notification = ia k; reason = ib k }) ∙ ap raw_diversion (some_same b.2)
+    (λ k. record { notification = ia k; reason = ib k }) ∙ ap raw_diversion (same_Some _ _ b.2)
 
 diversion_again : (x : DiversionInformation) → diversion_in (raw_diversion x) ≡ Some x
 diversion_again x = takes_at _ (found_notification x.notification) ∙ takes_at _ (found_reason x.reason)
@@ -88,7 +88,7 @@ diversion_again x = takes_at _ (found_notification x.notification) ∙ takes_at 
 notice_sound :
     (t : Bool) (d : Option RawDiversion) (n : Option Number) (r : Option (Notice Number)) → notice_from t d n ≡ Some r →
     ◌≡◌ {A = RawNotice} (record { announced = t; diversion = d; number = n }) (raw_notice r)
-notice_sound false None None r e = ap raw_notice (some_same e)
+notice_sound false None None r e = ap raw_notice (same_Some _ _ e)
 notice_sound false None (Some n) r e = absurd (none-some _ e)
 notice_sound false (Some d) n r e = absurd (none-some _ e)
 notice_sound true None n r e = absurd (none-some _ e)
@@ -96,17 +96,17 @@ notice_sound true (Some d) None r e = absurd (none-some _ e)
 notice_sound true (Some d) (Some n) r e =
     let x = takes_some (diversion_in d) _ r e in
     let s = diversion_sound d x.0 x.1 in
-    (λ k. record { announced = true; diversion = Some (s k); number = Some n }) ∙ ap raw_notice (some_same x.2)
+    (λ k. record { announced = true; diversion = Some (s k); number = Some n }) ∙ ap raw_notice (same_Some _ _ x.2)
 
 notice_again : (r : Option (Notice Number)) → notice_in (raw_notice r) ≡ Some r
 notice_again None = refl
 notice_again (Some r) = takes_at _ (diversion_again r.information)
 
 restriction_sound : (o : Option ℕ) (r : Option Restriction) → restriction_in o ≡ Some r → o ≡ option_map restriction_code r
-restriction_sound None r e = ap (option_map restriction_code) (some_same e)
+restriction_sound None r e = ap (option_map restriction_code) (same_Some _ _ e)
 restriction_sound (Some n) r e =
     let x = takes_some (restriction_of n) _ r e in
-    ap (λ (v : ℕ). Some v) (code_of_restriction n x.0 x.1) ∙ ap (option_map restriction_code) (some_same x.2)
+    ap (λ (v : ℕ). Some v) (code_of_restriction n x.0 x.1) ∙ ap (option_map restriction_code) (same_Some _ _ x.2)
 
 restriction_again : (r : Option Restriction) → restriction_in (option_map restriction_code r) ≡ Some r
 restriction_again None = refl
@@ -124,7 +124,7 @@ optional_sound p o e =
     let a = takes_some (redirection_in p.redirection) _ o e in
     let b = takes_some (notice_in p.notice) _ o a.2 in
     let d = takes_some (restriction_in p.restriction) _ o b.2 in
-    subst (λ (x : Optional). Optionals p x) (some_same d.2) (record {
+    subst (λ (x : Optional). Optionals p x) (same_Some _ _ d.2) (record {
       redirections = redirection_sound p.redirection.redirecting p.redirection.original p.redirection.information a.0 a.1;
       diverts = refl;
       notices = notice_sound p.notice.announced p.notice.diversion p.notice.number b.0 b.1;
@@ -153,7 +153,7 @@ initial_sound n o m e =
     let r = lacks_some o.restriction _ m t.1 in
     let x = takes_some (service_of a.0) _ m r.1 in
     let coded : n.service ≡ Some _ = a.1 ∙ ap (λ (z : ℕ). Some z) (code_of_service a.0 x.0 x.1) in
-    subst (λ (y : Message Number). Row 0x01 n o y) (some_same x.2) (record {
+    subst (λ (y : Message Number). Row 0x01 n o y) (same_Some _ _ x.2) (record {
       kinds = refl;
       mandatories = λ i. record { service = coded i; called = b.1 i; status = s.0 i; event = v.0 i; cause = u.0 i };
       optionals = λ i. record { redirection = o.redirection; may_divert = d.0 i; notice = t.0 i; restriction = r.0 i };
@@ -162,7 +162,7 @@ initial_sound n o m e =
 backward_sound : (o : Optional) (b : Backward Number) → backward_in o ≡ Some b → o ≡ record { redirection = None; may_divert = b.may_divert; notice = b.notice; restriction = b.restriction }
 backward_sound o b e =
     let a = lacks_some o.redirection _ b e in
-    let s = some_same a.1 in
+    let s = same_Some _ _ a.1 in
     λ i. record { redirection = a.0 i; may_divert = (s i).may_divert; notice = (s i).notice; restriction = (s i).restriction }
 
 complete_sound : (n : Mandatory) (o : Optional) (m : Message Number) → complete_in n o ≡ Some m → Row 0x06 n o m
@@ -175,7 +175,7 @@ complete_sound n o m e =
     let x = takes_some (status_of s.0) _ m u.1 in
     let y = takes_some (backward_in o) _ m x.2 in
     let coded : n.status ≡ Some _ = s.1 ∙ ap (λ (z : ℕ). Some z) (code_of_status s.0 x.0 x.1) in
-    subst (λ (y : Message Number). Row 0x06 n o y) (some_same y.2) (record {
+    subst (λ (y : Message Number). Row 0x06 n o y) (same_Some _ _ y.2) (record {
       kinds = refl;
       mandatories = λ i. record { service = a.0 i; called = b.0 i; status = coded i; event = v.0 i; cause = u.0 i };
       optionals = backward_sound o y.0 y.1;
@@ -191,7 +191,7 @@ progress_sound n o m e =
     let x = takes_some (event_of v.0) _ m u.1 in
     let y = takes_some (backward_in o) _ m x.2 in
     let coded : n.event ≡ Some _ = v.1 ∙ ap (λ (z : ℕ). Some z) (code_of_event v.0 x.0 x.1) in
-    subst (λ (y : Message Number). Row 0x2C n o y) (some_same y.2) (record {
+    subst (λ (y : Message Number). Row 0x2C n o y) (same_Some _ _ y.2) (record {
       kinds = refl;
       mandatories = λ i. record { service = a.0 i; called = b.0 i; status = s.0 i; event = coded i; cause = u.0 i };
       optionals = backward_sound o y.0 y.1;
@@ -202,7 +202,7 @@ alone_sound o r e =
     let a = lacks_some o.redirection _ r e in
     let d = unless_some o.may_divert _ r a.1 in
     let t = lacks_some o.notice _ r d.1 in
-    let s = some_same t.1 in
+    let s = same_Some _ _ t.1 in
     λ i. record { redirection = a.0 i; may_divert = d.0 i; notice = t.0 i; restriction = s i }
 
 connected_sound :
@@ -224,7 +224,7 @@ told_sound :
 told_sound k tell row n o m e =
     let x = takes_some (connected_in n o) _ m e in
     let s = connected_sound n o x.0 x.1 in
-    subst (λ (y : Message Number). Row k n o y) (some_same x.2) (subst (λ (w : Mandatory). Row k w o (tell x.0)) (sym s.0)
+    subst (λ (y : Message Number). Row k n o y) (same_Some _ _ x.2) (subst (λ (w : Mandatory). Row k w o (tell x.0)) (sym s.0)
     (subst (λ (v : Optional). Row k (mandatory_of (Answer x.0)) v (tell x.0)) (sym s.1) (row x.0)))
 
 answer_row : (r : Option Restriction) → Row 0x09 (mandatory_of (Answer r)) (optional_of (Answer r)) (Answer r)
@@ -244,7 +244,7 @@ release_sound n o m e =
     let w = lacks_some r.0 _ m r.2 in
     let x = takes_some (cause_in u.0) _ m w.1 in
     let coded : n.cause ≡ Some _ = u.1 ∙ ap (λ (z : ℕ). Some z) (number_of_ranged _ _ u.0 x.0 x.1) in
-    subst (λ (y : Message Number). Row 0x0C n o y) (some_same x.2) (record {
+    subst (λ (y : Message Number). Row 0x0C n o y) (same_Some _ _ x.2) (record {
       kinds = refl;
       mandatories = λ i. record { service = a.0 i; called = b.0 i; status = s.0 i; event = v.0 i; cause = coded i };
       optionals = alone_sound o None (r.1 ∙ ap (λ (z : Option Restriction). Some z) w.0);
@@ -290,7 +290,7 @@ made_sound p r e =
     let ds : p.may_divert ≡ (optional_of d.0).may_divert = ib.diverts ∙ ap (λ (x : Optional). x.may_divert) o in
     let ns : p.notice ≡ raw_notice (optional_of d.0).notice = ib.notices ∙ ap (λ (x : Optional). raw_notice x.notice) o in
     let xs : p.restriction ≡ option_map restriction_code (optional_of d.0).restriction = ib.restrictions ∙ ap (λ (x : Optional). option_map restriction_code x.restriction) o in
-    subst (λ (q : Circuit × Message Number). p ≡ parts_of q.0 q.1) (some_same d.2)
+    subst (λ (q : Circuit × Message Number). p ≡ parts_of q.0 q.1) (same_Some _ _ d.2)
     (λ i. record {
       call = ia.0 i;
       leg = ia.1 i;

@@ -1,7 +1,7 @@
 // Rows against parts that they have not, halves of groups, and the edges of ranges.
 use crate::envelope::make_envelope;
 use crate::message::make_message;
-use crate::parts::{Mandatory, Parts, RawDiversion, RawInformation, RawNotice, RawRedirection};
+use crate::parts::{Parts, RawDiversion, RawInformation, RawNotice, RawRedirection};
 use numbers::number::{Number, Party};
 use std::test::Fail;
 
@@ -9,7 +9,7 @@ fn any_number() -> Result<Number, Fail> {
     Number::from_digits(&[4, 0, 1, 2]).map_err(|_| Fail::new("4012 is a number"))
 }
 
-// A type octet and no parts.
+// A type octet and no parts. Type octets and parts are numbers in these tests, since all 256 and all nine are tried by turns.
 fn bare(kind: u8) -> Parts {
     Parts {
         call: 63,

@@ -4,7 +4,7 @@ ghost use Rattle.std.specs.Prelude.{◌≡◌, ◌≤◌, length};
 pub mod drafting;
 
 // The first len octets are drafted. No message has more than 50.
-// An array and a length, since an `ArrayVec` is not `Copy`, and a draft may be copied.
+// An array and a length, since an `ArrayVec` is not `Copy`, and who copies drafts may go on doing so.
 #[derive(Clone, Copy)]
 pub struct Draft {
     octets: [u8; 64],

@@ -18,6 +18,7 @@ pub enum Kind {
 }
 
 // What a diverting party allows the caller to be told: nothing, the diversion with the new number, or the diversion alone.
+// A type of its own beside `Notification`: a message may say that it is unknown, a store may not.
 #[derive(Clone, Copy, Debug, PartialEq, Eq)]
 pub enum NotificationOption {
     NotAllowed,

@@ -23,16 +23,17 @@ pub enum Answer {
     Message(MessageRead),
 }
 
-// What a command answers.
-pub fn answer_to(command: &Command) -> Answer
-    ensures { Some result ≡ answer_of (asked (Some command.now)) }
+// What a line answers, if it asks for anything.
+pub fn answer_to(command: &Option<Command>) -> Option<Answer>
+    ensures { result ≡ answer_of (asked command.now) }
 {
     match command {
-        Command::Number {
+        None => None,
+        Some(Command::Number {
             octets,
             may_restrict,
-        } => Answer::Number(read_number(octets.as_slice(), *may_restrict)),
-        Command::Read { octets } => Answer::Message(read(octets.as_slice())),
+        }) => Some(Answer::Number(read_number(octets.as_slice(), *may_restrict))),
+        Some(Command::Read { octets }) => Some(Answer::Message(read(octets.as_slice()))),
     }
 }
 

@@ -17,7 +17,7 @@ pub fn reply_to<'a>(heap: Global, line: &'a str) -> Result<Option<Answer>, LineE
     ensures { Gives (λ answer. answer) result (reply (meaning line.now)) }
 {
     let command = parse(heap, line)?;
-    Ok(command.as_ref().map(answer_to))
+    Ok(answer_to(&command))
 }
 
 // What was written so far, and the counts of the lines.

@@ -147,7 +147,7 @@ impl<'a, T: Copy> WaitingList<'a, T> {
     {
         let held = self.held;
         self.held = 0;
-        // Elements are read and written in the same memory, so no iterator can lend them here.
+        // One walk in place of many. Elements are read and written in the same memory, so no iterator can lend them here.
         for i in 0..held {
             let element = self.slots[i];
             if !question.asks(&element) {

@@ -5,7 +5,8 @@ ghost use Rattle.isup.specs.Ranges.{in_range, circuit_in, circuit_from, circuit_
 use super::{Circuit, Ranged};
 
 impl<const LOW: u8, const HIGH: u8> Ranged<LOW, HIGH> {
-    // The number, if it is in the range. An Option, as of the library's NonZeroU8, since there is one way to fail.
+    // The number, if it is in the range. As the library's NonZeroU8 has `new` and no TryFrom: with it each use would name the type
+    // of the error that it throws away.
     pub fn new(value: u8) -> Option<Ranged<LOW, HIGH>>
         ensures { result ≡ in_range LOW HIGH value }
     {
@@ -24,6 +25,7 @@ impl<const LOW: u8, const HIGH: u8> Ranged<LOW, HIGH> {
 }
 
 impl Circuit {
+    // The circuit of a call and a leg, if both are in range. As `Ranged::new`.
     pub fn new(call: u8, leg: u8) -> Option<Circuit>
         ensures { result ≡ circuit_in call leg }
     {

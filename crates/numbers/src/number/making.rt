@@ -26,6 +26,7 @@ impl TryFrom<&[u8]> for Number {
 
 impl Number {
     // The number with exactly these digits, or a refusal where they are not 3 to 15 digits from 0 to 9.
+    // Beside `TryFrom`, since it takes digits that stand in an array as they are: `from_digits(&[4, 0, 1, 2])`.
     pub fn from_digits(digits: &[u8]) -> Result<Number, Refusal>
         ensures { MatchResult result (λ n. digits_of n ≡ digits.now) (λ e. (e ≡ OutOfRange) × (Lawful digits.now → ⊥)) }
     {

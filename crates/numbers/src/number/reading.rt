@@ -37,7 +37,7 @@ fn digits_and_filler(
     ensures { result ≡ read_digits restricted count octets.now }
 {
     let halves = halves(octets);
-    // By `else`: with `map_err` and `?` the proof has to follow two calls and a closure more.
+    // By `else`: with `map_err` and `?` a goal stayed open.
     let Ok(number) = Number::try_from(&halves[..count]) else {
         return Err(NumberFault::Digit);
     };
@@ -48,6 +48,7 @@ fn digits_and_filler(
 }
 
 // Reads a number's content, told whether it may be restricted: the number under its mark and how many octets held digits.
+// The pair and the bool are as those who read write them: a type of its own for either would be taken apart at once.
 pub fn read_number(octets: &[u8], may_restrict: bool) -> Result<(Party<Number>, usize), NumberFault>
     ensures { result ≡ read_number may_restrict octets.now }
 {

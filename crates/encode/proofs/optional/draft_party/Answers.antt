@@ -1,7 +1,7 @@
 use Rattle.std.proofs.Common.{◌≡◌, length}
 use Rattle.std.proofs.lemmas.List.{append-nil}
 use Rattle.numbers.specs.Digits.{content}
-use Rattle.encode.specs.Sending.{name_code}
+use Rattle.isup.specs.Codes.{name_code}
 use Rattle.encode.proofs.Adds.{added_two}
 use Rattle.encode.proofs.optional.draft_party.Goals as goal
 
