@@ -6,7 +6,7 @@ ghost use Rattle.decode.specs.Optional.{number_at, value_of, add_of, end_of, opt
 
 use crate::fault::{FaultAt, MessageFault};
 use crate::parameter::{OptionalParameter, OptionalPart};
-use crate::values::{diversion, information, is_octet, restriction};
+use crate::values::{diversion, information, restriction};
 use isup::message::{DiversionInformation, RedirectionInformation, Restriction};
 use isup::row::Row;
 use numbers::number::reading::read_number;
@@ -41,6 +41,7 @@ impl Gathered {
         ensures value { MatchResult result (λ _. value_of self.old (part_of p.entry) ≡ Ok self.new) (λ f. value_of self.old (part_of p.entry) ≡ Err f) }
         ensures same { OnErr result (self.new ≡ self.old) }
     {
+        let fault = MessageFault::Value(p.place(), None);
         match p {
             OptionalParameter::Redirecting(content, at) => {
                 self.redirecting = Some(party(content, true, at)?);
@@ -48,32 +49,22 @@ impl Gathered {
             OptionalParameter::Original(content, at) => {
                 self.original = Some(party(content, true, at)?);
             }
-            OptionalParameter::Information(content, at) => {
-                let value = information(content).ok_or(MessageFault::Value(at, None))?;
-                self.information = Some(value);
+            OptionalParameter::Information(content, _) => {
+                self.information = Some(information(content).ok_or(fault)?);
             }
-            OptionalParameter::MayDivert(content, at) => {
-                if !is_octet(content, 0x02) {
-                    return Err(MessageFault::Value(at, None));
-                }
-                self.may_divert = true;
+            OptionalParameter::MayDivert([0x02], _) => self.may_divert = true,
+            OptionalParameter::Announced([0xFB], _) => self.announced = true,
+            OptionalParameter::MayDivert(..) | OptionalParameter::Announced(..) => {
+                return Err(fault);
             }
-            OptionalParameter::Announced(content, at) => {
-                if !is_octet(content, 0xFB) {
-                    return Err(MessageFault::Value(at, None));
-                }
-                self.announced = true;
-            }
-            OptionalParameter::Diversion(content, at) => {
-                let value = diversion(content).ok_or(MessageFault::Value(at, None))?;
-                self.diversion = Some(value);
+            OptionalParameter::Diversion(content, _) => {
+                self.diversion = Some(diversion(content).ok_or(fault)?);
             }
             OptionalParameter::Redirection(content, at) => {
                 self.redirection = Some(party(content, false, at)?.number);
             }
-            OptionalParameter::Restriction(content, at) => {
-                let value = restriction(content).ok_or(MessageFault::Value(at, None))?;
-                self.restriction = Some(value);
+            OptionalParameter::Restriction(content, _) => {
+                self.restriction = Some(restriction(content).ok_or(fault)?);
             }
             OptionalParameter::Foreign(..) => {}
         }

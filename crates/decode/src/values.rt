@@ -1,17 +1,11 @@
 // The values of optional parameters and of the cause.
 ghost use Rattle.std.specs.Prelude.{◌≡◌};
-ghost use Rattle.decode.specs.Values.{is_octet, information_in, diversion_in, restriction_in, cause_from};
+ghost use Rattle.decode.specs.Values.{information_in, diversion_in, restriction_in, cause_from};
 
 use isup::message::{
     Cause, Count, DiversionInformation, Indicator, Notification, Reason, RedirectionInformation,
     Restriction,
 };
-
-pub(crate) fn is_octet(content: &[u8], octet: u8) -> bool
-    ensures { result ≡ is_octet content.now octet }
-{
-    matches!(content, [only] if *only == octet)
-}
 
 // The low three bits of the second octet are the count, the next is 0, and the high four are the reason.
 pub(crate) fn information(content: &[u8]) -> Option<RedirectionInformation>

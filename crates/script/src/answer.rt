@@ -29,10 +29,12 @@ pub fn answer_to(command: &Option<Command>) -> Option<Answer>
 {
     match command {
         None => None,
-        Some(Command::Number {
-            octets,
-            may_restrict,
-        }) => Some(Answer::Number(read_number(octets.as_slice(), *may_restrict))),
+        Some(
+            Command::Number {
+                octets,
+                may_restrict,
+            },
+        ) => Some(Answer::Number(read_number(octets.as_slice(), *may_restrict))),
         Some(Command::Read { octets }) => Some(Answer::Message(read(octets.as_slice()))),
     }
 }
