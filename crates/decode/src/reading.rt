@@ -14,7 +14,7 @@ use isup::message::{
 use isup::row::Row;
 use numbers::number::Number;
 
-// 0B, 28 and 13: all or none.
+// 0B, 28 and 13: all or none. The length is the place of the fault, here and in `notice`.
 fn redirection(g: &Gathered, length: usize) -> Result<Option<Redirection<Number>>, MessageFault>
     ensures { result ≡ redirection_in g.now length }
 {

@@ -20,6 +20,7 @@ fn halves(octets: &[u8]) -> [u8; 16]
     ensures each { (k : ℕ) → slice_index result k ≡ slice_index (unpack octets.now) k }
 {
     let mut halves = [0; 16];
+    // By places: a pair that `chunks_mut` lends has to be matched by a pattern with an arm for other lengths.
     for (k, octet) in octets.iter().enumerate() {
         halves[2 * k] = octet & 0x0F;
         halves[2 * k + 1] = octet >> 4;
