@@ -35,7 +35,7 @@ pub enum Refusal {
 }
 
 impl Refusal {
-    // The number by which callers know the refusal.
+    // The number by which callers know the refusal. A method and no `From`: its name says which number that is.
     pub fn number(self) -> u8
         ensures { result ≡ refusal_number self }
     {

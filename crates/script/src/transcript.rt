@@ -35,6 +35,7 @@ impl Transcript {
             return Ok(());
         };
         self.lines.carried_out = self.lines.carried_out.saturating_add(1);
+        // Writing to a string fails for want of memory alone, here and below.
         writeln!(self.text, "{number}: {answer}").map_err(|_| AllocError)
     }
 

@@ -12,7 +12,8 @@ fn run_input(rt: &HostRuntime) -> anyhow::Result<()> {
     run(rt, script.as_slice())
 }
 
-// The status says that something went wrong; an error that `main` answered would be printed.
+// The status says that something went wrong; an error that `main` answered would be printed. A function for this match, shared
+// with `rehearse`, would be called by a line as long.
 fn main(rt: HostRuntime) -> ExitCode {
     match run_input(&rt) {
         Ok(()) => ExitCode::SUCCESS,

@@ -5,7 +5,7 @@ ghost use Rattle.numbers.specs.Reading.{number_fault_number, unpack, read_digits
 use super::{Number, NumberFault, Party};
 
 impl NumberFault {
-    // The number by which callers know the fault.
+    // The number by which callers know the fault. A method and no `From`: its name says which number that is.
     pub fn number(self) -> u8
         ensures { result ≡ number_fault_number self }
     {
