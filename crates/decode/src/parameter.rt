@@ -6,7 +6,8 @@ use crate::fault::MessageFault;
 use isup::codes::UnknownCode;
 use isup::row::ParameterName;
 
-// A parameter: its content, a part of the message's octets, and the place of its name.
+// A parameter: its content, a part of the message's octets, and the place of its name. Each case holds the two by itself, so that
+// whoever takes a case apart has them at hand.
 #[derive(Clone, Copy)]
 pub enum OptionalParameter<'a> {
     Redirecting(&'a [u8], usize),
