@@ -27,16 +27,13 @@ pub enum Answer {
 pub fn answer_to(command: &Option<Command>) -> Option<Answer>
     ensures { result ≡ answer_of (asked command.now) }
 {
-    match command {
-        None => None,
-        Some(
-            Command::Number {
-                octets,
-                may_restrict,
-            },
-        ) => Some(Answer::Number(read_number(octets.as_slice(), *may_restrict))),
-        Some(Command::Read { octets }) => Some(Answer::Message(read(octets.as_slice()))),
-    }
+    Some(match command.as_ref()? {
+        Command::Number {
+            octets,
+            may_restrict,
+        } => Answer::Number(read_number(octets.as_slice(), *may_restrict)),
+        Command::Read { octets } => Answer::Message(read(octets.as_slice())),
+    })
 }
 
 impl fmt::Display for Text<NumberRead> {
