@@ -50,7 +50,7 @@ fn main(rt: HostRuntime) -> ExitCode {
 
 #[cfg(test)]
 mod tests {
-    use script::rehearse;
+    use script::{LineCounts, Transcript, rehearse};
     use std::test::Fail;
 
     const SCRIPT: &str = "frobnicate 1
@@ -81,6 +81,20 @@ waiting 0
         let transcript = rehearse(rt.alloc(), SCRIPT)?;
         assert_eq!(rt; transcript.lines.errors, 6);
         assert_eq!(rt; transcript.text.as_str(), TRANSCRIPT);
+        Ok(())
+    }
+
+    #[test]
+    fn a_line_is_carried_out_under_its_number(rt: HostRuntime) -> Result<(), Fail> {
+        let mut transcript = Transcript {
+            text: String::new(rt.alloc()),
+            lines: LineCounts::default(),
+        };
+        transcript.carry_out(rt.alloc(), 8, "read 000009 00")?;
+        transcript.carry_out(rt.alloc(), 9, "")?;
+        assert_eq!(rt; transcript.lines.carried_out, 1);
+        assert_eq!(rt; transcript.lines.errors, 0);
+        assert_eq!(rt; transcript.text.as_str(), "8: message ANM call 0 leg 0\n");
         Ok(())
     }
 }
