@@ -26,7 +26,7 @@ pub(crate) struct Field<'a> {
     pub(crate) place: usize,
 }
 
-// `moved` and `same` stand at each method: a definition of the two would take the places and the octets of both moments, and
+// `moved` and `same` stand at each method that moves: a definition of the two would take the places and the octets of both moments, and
 // say it no shorter.
 impl<'a> Mandatory<'a> {
     // An octet that must be there.

@@ -146,8 +146,7 @@ pub enum MessageKind {
     Release = 0x0C,
 }
 
-// It goes with its circuit as a pair or as two arguments, and only an envelope holds both: whoever reads a message or writes it
-// takes the two apart at once.
+// It goes with its circuit as a pair or as two arguments: whoever reads a message or writes it takes the two apart at once.
 #[derive(Clone, Copy, Debug, PartialEq, Eq)]
 pub enum Message<N = Number> {
     InitialAddress(Service, N, Option<Redirection<N>>),

@@ -15,5 +15,5 @@ pub use arguments::{ArgumentError, Source, source_of};
 pub use line::{Command, LineError, parse};
 pub use program::{USAGE, run};
 pub use report::LineCounts;
-pub use transcript::{Transcript, rehearse, reply_to};
+pub use transcript::{Transcript, answer_of_line, rehearse};
 pub use words::octets;

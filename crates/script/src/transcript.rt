@@ -13,7 +13,7 @@ use std::alloc::{AllocError, Global};
 use std::fmt::Write;
 
 // What a line answers, if it asks for anything, or why it is none of the script's.
-pub fn reply_to<'a>(heap: Global, line: &'a str) -> Result<Option<Answer>, LineError<'a>>
+pub fn answer_of_line<'a>(heap: Global, line: &'a str) -> Result<Option<Answer>, LineError<'a>>
     ensures { Gives (λ answer. answer) result (reply (meaning line.now)) }
 {
     let command = parse(heap, line)?;
@@ -54,7 +54,7 @@ impl Transcript {
     pub fn carry_out(&mut self, heap: Global, number: usize, line: &str) -> Result<(), AllocError>
         ensures { OnOk result (state_of self.new ≡ adding (output_of number (meaning line.now)) (state_of self.old)) }
     {
-        match reply_to(heap, line) {
+        match answer_of_line(heap, line) {
             Ok(answer) => self.add_answer(number, answer),
             Err(error) => self.add_error(number, error),
         }
