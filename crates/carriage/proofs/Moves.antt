@@ -17,7 +17,7 @@ none_kept : {X : Type 0} (p : X → Bool) (xs : List X) → None ≡ earliest p 
 none_kept p [] q = refl
 none_kept p (y ∷ ys) q = grind (arith, none_kept p ys)
 
-none_taken : {X : Type 0} (p : X → Bool) (xs : List X) → None ≡ earliest p xs → without_earliest p xs ≡ xs
+pub none_taken : {X : Type 0} (p : X → Bool) (xs : List X) → None ≡ earliest p xs → without_earliest p xs ≡ xs
 none_taken p [] q = refl
 none_taken p (y ∷ ys) q = grind (arith, none_taken p ys)
 

@@ -17,6 +17,11 @@ abbrev pub placed_from : ℕ → List Parameter → List Part
 placed_from at [] = []
 placed_from at (q ∷ qs) = record { name = q.0; content = q.1; place = at } ∷ placed_from (at + 2 + length q.1) qs
 
+-- what is sent has the same parameters wherever it begins
+pub bare_placed : (at : ℕ) (qs : List Parameter) → without_places (placed_from at qs) ≡ qs
+bare_placed at [] = refl
+bare_placed at (q ∷ qs) = ap (λ (l : List Parameter). q ∷ l) (bare_placed (at + 2 + length q.1) qs)
+
 -- what each step tells of what is left
 abbrev Tells : ℕ → List ℕ → Step → Type 0
 Tells at left closed = left ≡ 0 ∷ []

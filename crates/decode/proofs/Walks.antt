@@ -17,7 +17,7 @@ use Rattle.decode.specs.Optional.{member, repeated, collected, unless_repeated, 
 abbrev Out : Type 0
 Out = Result Gathered MessageFault
 
-abbrev run : Row → List Bool → Walk → List Part → Out
+abbrev pub run : Row → List Bool → Walk → List Part → Out
 run row met s [] = end_of s
 run row met s (p ∷ ps) = run row (met_after row met p) (walk_after row met s p) ps
 
@@ -143,7 +143,7 @@ over_is : (row : Row) (r : Result (List Part) MessageFault) →
 over_is row (Ok ps) = run_is row (replicate 256 false) [] nothing ps (length-replicate 256 false, λ n h. nothing_met n 256)
 over_is row (Err f) = refl
 
-walk_is : (row : Row) (xs : List ℕ) (at : ℕ) → run_by (length xs + 1) row xs at (replicate 256 false) start ≡ optional_from row xs at
+pub walk_is : (row : Row) (xs : List ℕ) (at : ℕ) → run_by (length xs + 1) row xs at (replicate 256 false) start ≡ optional_from row xs at
 walk_is row xs at = by_parts (length xs + 1) row xs at (replicate 256 false) start ∙ over_is row (parts_by (length xs + 1) xs at)
 
 -- what the walk from a place on comes to, in some number of steps
@@ -177,7 +177,7 @@ pub fails :
     (row : Row) (xs : List ℕ) (at : ℕ) (met : List Bool) (s : Walk) (out : Out) (f : MessageFault) → Comes row xs at met s out → at ≤ length xs → refused f ≡ step_at xs at → Err f ≡ out
 fails row xs at met s out f c b e = (one_step row xs at met s out (refused f) c b e).1.1
 
-ahead :
+pub ahead :
     (row : Row) (xs : List ℕ) (at to : ℕ) (met : List Bool) (s : Walk) (out : Out) (p : Part) → Comes row xs at met s out → at ≤ length xs →
     given p ≡ step_at xs at → to ≡ after (step_at xs at) at → Comes row xs to (met_after row met p) (walk_after row met s p) out
 ahead row xs at to met s out p c b e t =

@@ -135,7 +135,7 @@ all_parts xs ys s f t w q n l a b c d =
     ∙ of_length xs (omega arith) (omega arith) (omega arith)
 
 -- octets whose parts are those of an envelope
-framed :
+pub framed :
     (e : Envelope Number) (n h l f t w : ℕ) (ys : List ℕ) →
     h * 256 + l ≡ n + 3 → n ≤ length ys → f ≡ e.from.value → t ≡ e.to.value → w ≡ way_code e.way →
     read_message (take n ys) ≡ Ok (e.circuit, e.message) →

@@ -27,7 +27,7 @@ digits_each [] e k = omega arith
 digits_each (d ∷ ds) e zero = leb-true d 9 (and_parts (leb d 9) (all_digits ds) e).0
 digits_each (d ∷ ds) e (suc k) = digits_each ds (and_parts (leb d 9) (all_digits ds) e).1 k
 
-below : (n : ℕ) → n ≤ 9 → leb n 9 ≡ true
+pub below : (n : ℕ) → n ≤ 9 → leb n 9 ≡ true
 below n h = grind (arith, nat_tests)
 
 pub each_digits : (ds : List ℕ) → ((k : ℕ) → get_or ds k 0 ≤ 9) → all_digits ds ≡ true

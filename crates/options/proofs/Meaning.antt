@@ -41,7 +41,7 @@ fits_covers meant n s k (Diversion m t j r) e =
 fits_covers meant n s k (Withheld m) e = cc
 
 -- no cell is both
-withheld_apart : (meant : Diversions) (n : Number) (x : Cell) → is_withheld n x ≡ true → is_diversion meant x ≡ false
+pub withheld_apart : (meant : Diversions) (n : Number) (x : Cell) → is_withheld n x ≡ true → is_diversion meant x ≡ false
 withheld_apart meant n (Diversion m t j r) e = cc
 withheld_apart meant n (Withheld m) e = refl
 
@@ -59,7 +59,7 @@ record_none b o = grind arith
 some_none : (b : Bool) (o : Option Cell) → is_some (cond b None o) ≡ cond b false (is_some o)
 some_none b o = grind arith
 
-single_without : (p : Cell → Bool) (cells : List Cell) → Single cells → Single (others p cells)
+pub single_without : (p : Cell → Bool) (cells : List Cell) → Single cells → Single (others p cells)
 single_without p cells σ = record {
   diversions = λ n s k. (let a = count_without p (is_diversion (for_one n s k)) cells in let b = σ.diversions n s k in omega arith);
   numbers = λ n. (let a = count_without p (is_withheld n) cells in let b = σ.numbers n in omega arith);
