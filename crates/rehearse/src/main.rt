@@ -50,7 +50,7 @@ fn main(rt: HostRuntime) -> ExitCode {
 
 #[cfg(test)]
 mod tests {
-    use script::{LineCounts, Transcript, rehearse};
+    use script::{LineCounts, LineError, Transcript, answer_of_line, rehearse};
     use std::test::Fail;
 
     const SCRIPT: &str = "frobnicate 1
@@ -96,5 +96,17 @@ waiting 0
         assert_eq!(rt; transcript.lines.errors, 0);
         assert_eq!(rt; transcript.text.as_str(), "8: message ANM call 0 leg 0\n");
         Ok(())
+    }
+
+    // Does a line answer anything?
+    fn answers<'a>(rt: &HostRuntime, line: &'a str) -> Result<bool, LineError<'a>> {
+        Ok(answer_of_line(rt.alloc(), line)?.is_some())
+    }
+
+    #[test]
+    fn a_line_is_answered_or_its_mistake(rt: HostRuntime) {
+        assert_eq!(rt; answers(&rt, "read 000009 00"), Ok(true));
+        assert_eq!(rt; answers(&rt, "# read"), Ok(false));
+        assert_eq!(rt; answers(&rt, "read 0"), Err(LineError::NotOctets("0")));
     }
 }
