@@ -129,7 +129,7 @@ impl<'a, T: Copy> WaitingList<'a, T> {
     pub fn first<Q: Question<T>>(&self, question: &Q) -> Option<T>
         ensures { result ≡ earliest (Q.Question.fits question.now) self.now.items }
     {
-        self.elements().iter().copied().find(|x| question.asks(x))
+        self.elements().iter().find(|x| question.asks(x)).copied()
     }
 
     // Takes the first element that fits a question out; the others keep their order.
