@@ -1,10 +1,12 @@
 -- The first that fits: its element is the earliest, and without it the list is without the earliest.
-use Rattle.std.proofs.Common.{◌≡◌, ℕ, suc, ◌+◌, ◌≤◌, Bool, true, false, not, cond, List, [], ◌∷◌, length, Some, None, sym, refl, ap, ◌∙◌, arith}
+use Rattle.std.proofs.Common.{◌≡◌, ℕ, suc, ◌+◌, ◌≤◌, Bool, true, false, not, cond, List, [], ◌∷◌, length, take, Option, Some, None, unwrap_or, sym, refl, ap, subst, ◌∙◌, arith}
 use Rattle.std.specs.List.{slice_get, remove, position_or_len}
 use Rattle.std.proofs.lemmas.Bool.Decides.{nat_tests}
 use Rattle.std.proofs.lemmas.Iterator.Adapters.{position_from-zero}
+use Rattle.std.proofs.lemmas.List.{length-take, take-take}
+use Rattle.std.proofs.lemmas.List.Sums.{prefix_len-le-length}
 use Rattle.std.proofs.lemmas.Option.{slice_get_past}
-use Rattle.waiting.specs.Items.{first_fit, earliest, without_earliest}
+use Rattle.waiting.specs.Items.{first_fit, earliest, without_earliest, others}
 use Rattle.waiting.proofs.Cut.{removed_none}
 
 at_first : {X : Type 0} (p : X → Bool) (xs : List X) → slice_get xs (position_or_len p xs) ≡ earliest p xs
@@ -46,3 +48,25 @@ missing_answers p xs e = none_place p xs e ∙ at_first p xs
 
 pub missing_leaves : {X : Type 0} (p : X → Bool) (xs : List X) → None ≡ first_fit p xs → xs ≡ without_earliest p xs
 missing_leaves p xs e = sym (removed_none xs (position_or_len p xs) (none_place p xs e)) ∙ without_first p xs
+
+-- in front of the first that fits stand only others
+before_first : {X : Type 0} (p : X → Bool) (xs : List X) → others p (take (position_or_len p xs) xs) ≡ take (position_or_len p xs) xs
+before_first p [] = refl
+before_first p (x ∷ xs) =
+    let k = position_or_len p xs in
+    let next : 1 + k ≡ suc k = omega arith in
+    let more = ap (λ j. take j (x ∷ xs)) next in
+    grind (arith, before_first p xs)
+
+-- the same at the front of a memory, where it may be all of the front
+pub passed :
+    {X : Type 0} {m k : ℕ} (p : X → Bool) (d : List X) (n : ℕ) (o : Option ℕ) → n ≤ length d →
+    k ≡ unwrap_or o m → m ≡ n → o ≡ first_fit p (take n d) → (k ≤ n) × (take k d ≡ others p (take k d))
+passed {k} p d n o l e same found =
+    let xs = take n d in
+    let z = position_from-zero p xs in
+    let few = prefix_len-le-length (λ x. not (p x)) xs in
+    let all = length-take n d in
+    let at : position_or_len p xs ≡ k = grind (arith, nat_tests) in
+    let below : k ≤ n = omega arith in
+    (below, subst (λ v. v ≡ others p v) (ap (λ j. take j xs) at ∙ take-take k n d below) (sym (before_first p xs)))

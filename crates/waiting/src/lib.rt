@@ -146,12 +146,13 @@ impl<'a, T: Copy> WaitingList<'a, T> {
         ensures after { self.new ≡ holding self.old (others (Q.Question.fits question.now) self.old.items) }
     {
         let held = self.held;
-        self.held = 0;
+        // What stands in front of the first that fits stays where it is.
+        let first = self.find(question).unwrap_or(held);
+        self.held = first;
         // One walk in place of many. Elements are read and written in the same memory, so no iterator can lend them here.
-        for i in 0..held {
-            let element = self.slots[i];
-            if !question.asks(&element) {
-                self.slots[self.held] = element;
+        for i in first..held {
+            if !question.asks(&self.slots[i]) {
+                self.slots[self.held] = self.slots[i];
                 self.held += 1;
             }
         }

@@ -8,5 +8,6 @@ invariant-loop-i g l = record {
   kept : take l.self-inside.held l.self-inside.slots.now ≡ others (g.Q.Question.fits l.question) (take l.i l.initial.self-inside.slots.now);
   rest : drop l.i l.self-inside.slots.now ≡ drop l.i l.initial.self-inside.slots.now;
   behind : l.self-inside.held ≤ l.i;
+  asked : l.i ≤ l.held;
   room : length l.self-inside.slots.now ≡ length l.initial.self-inside.slots.now;
 }
