@@ -111,7 +111,10 @@ impl<'a, T: Copy> WaitingList<'a, T> {
     pub fn count<Q: Question<T>>(&self, question: &Q) -> usize
         ensures { result ≡ count_by (Q.Question.fits question.now) self.now.items }
     {
-        self.elements().iter().filter(|x| question.asks(x)).count()
+        // A fold, since the count of a filter takes twice the time.
+        self.elements()
+            .iter()
+            .fold(0, |n, x| if question.asks(x) { n + 1 } else { n })
     }
 
     // Takes the element at a place out; the others keep their order.
