@@ -33,7 +33,10 @@ fn draft_initial(
     draft.push_all(&[kind, 0x00, 0x20, 0x01, 0x0A, service.into()]);
     draft.push_all(&[0x02, pointer, len]);
     called.draft(draft);
-    redirection.draft(draft);
+    // By `if let`, since the `draft` of an `Option` is lent a copy, which takes a tenth more instructions where there is none.
+    if let Some(redirection) = redirection {
+        redirection.draft(draft);
+    }
 }
 
 // The optional parts of an answer or a connect: those of an address complete that has no others.
@@ -52,28 +55,28 @@ impl Part for Message<Number> {
     ghost octets = { body };
 
     fn draft(&self, draft: &mut Draft) {
-        match *self {
+        match self {
             Message::InitialAddress(service, called, redirection) => draft_initial(
-                service,
-                called,
-                redirection,
+                *service,
+                *called,
+                *redirection,
                 draft,
             ),
             Message::AddressComplete(status, backward) => {
-                draft.push_all(&[MessageKind::AddressComplete as u8, status.into(), 0x14]);
+                draft.push_all(&[MessageKind::AddressComplete as u8, (*status).into(), 0x14]);
                 backward.draft(draft);
             }
             Message::CallProgress(event, backward) => {
-                draft.push_all(&[MessageKind::CallProgress as u8, event.into()]);
+                draft.push_all(&[MessageKind::CallProgress as u8, (*event).into()]);
                 backward.draft(draft);
             }
             Message::Answer(restriction) => {
                 draft.push(MessageKind::Answer as u8);
-                only_restriction(restriction).draft(draft);
+                only_restriction(*restriction).draft(draft);
             }
             Message::Connect(restriction) => {
                 draft.push_all(&[MessageKind::Connect as u8, 0x04, 0x14]);
-                only_restriction(restriction).draft(draft);
+                only_restriction(*restriction).draft(draft);
             }
             Message::Release(cause) => {
                 draft.push_all(&[MessageKind::Release as u8, 0x02, 0x00]);
