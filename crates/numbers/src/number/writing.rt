@@ -8,18 +8,24 @@ use crate::draft::Draft;
 use crate::refusal::Refusal;
 
 // Adds digits to a draft, two to an octet, the earlier in the low half; one that is left is filled with 0.
-// By a slice pattern, since `chunks(2)` takes a tenth more instructions.
+// By slice patterns in a loop: a `while let` takes about a tenth more instructions, and `chunks(2)` more still.
 fn draft_digits(digits: &[u8], draft: &mut Draft)
     requires { (k : ℕ) → slice_index digits.now k ≤ 9 }
     ensures { Adds draft.old draft.new (pack digits.now) }
 {
     let mut left = digits;
-    while let [low, high, rest @ ..] = left {
-        draft.push((high << 4) | low);
-        left = rest;
-    }
-    if let Some(last) = left.first() {
-        draft.push(*last);
+    loop {
+        match left {
+            [low, high, rest @ ..] => {
+                draft.push((high << 4) | low);
+                left = rest;
+            }
+            [last] => {
+                draft.push(*last);
+                return;
+            }
+            [] => return,
+        }
     }
 }
 

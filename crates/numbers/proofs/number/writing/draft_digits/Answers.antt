@@ -20,15 +20,14 @@ loop-left-preserved c =
     let ds = c.loop-left.left.now in
     let rest = take_all (length ds - 2) (drop 2 ds) (omega (arith, length-drop 2 ds)) in (
       λ k. subst (λ (l : List ℕ). get_or l k 0 ≤ 9) (sym rest) (subst (λ (d : ℕ). d ≤ 9) (sym (get_or-drop 2 ds k 0)) (c.loop-left.invariant.0 (2 + k))),
-      ap (λ (l : List ℕ). cut (drafted c.push.new.self ++ pack l)) rest
-          ∙ cut_more (drafted c.loop-left.draft) (drafted c.push.new.self) _ (_ ∷ []) (pack (drop 2 ds)) c.push.ensures refl
+      ap (λ (l : List ℕ). cut (drafted c.push-in-len2-up.new.self ++ pack l)) rest
+          ∙ cut_more (drafted c.loop-left.draft) (drafted c.push-in-len2-up.new.self) _ (_ ∷ []) (pack (drop 2 ds)) c.push-in-len2-up.ensures refl
           ∙ ap (λ (l : List ℕ). cut (drafted c.loop-left.draft ++ l)) (first_two ds (omega arith) c.loop-left.invariant.0)
           ∙ c.loop-left.invariant.1,
     )
 
 -- none is left
-pub returns-in_default-first : goal.returns-in_default-first
-returns-in_default-first c =
-    let h = c.in_default-first.ensures in
-    let none = nil_from_length c.loop-left.left.now (omega (arith, h)) in
+pub returns-in-empty : goal.returns-in-empty
+returns-in-empty c =
+    let none = nil_from_length c.loop-left.left.now (omega (arith, c.in-empty)) in
     cut_none c.loop-left.draft ∙ ap (λ (l : List ℕ). cut (drafted c.loop-left.draft ++ pack l)) (sym none) ∙ c.loop-left.invariant.1
