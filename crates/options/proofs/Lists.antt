@@ -36,3 +36,10 @@ count_none q [] e = refl
 count_none q (y ∷ ys) e =
     let c = sum_by-cons (λ x. cond (q x) 1 0) y ys in
     grind (arith, count_none q ys)
+
+-- where none is counted, none fits
+pub none_counted : {X : Type 0} (q : X → Bool) (xs : List X) → count_by q xs ≡ 0 → is_some (earliest q xs) ≡ false
+none_counted q [] e = refl
+none_counted q (y ∷ ys) e =
+    let c = sum_by-cons (λ x. cond (q x) 1 0) y ys in
+    grind (arith, none_counted q ys)
